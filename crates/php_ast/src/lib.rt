@@ -1,0 +1,4 @@
+// Trees of scripts.
+#![tactic(auto)]
+
+pub mod first_path;
