@@ -1,7 +1,7 @@
 -- How a file is cut into tokens.
 use Rattle.std.specs.Prelude.{◌≡◌, ◌≢◌, ℕ, ◌+◌, ◌≤◌, ◌<◌, ◌^◌, ℤ, pos, Bool, true, false, ◌==◌, not, List, [], ◌∷◌, ◌++◌, length, Option, Some, None, IsTrue, All, codes, slice_get, if◌then◌else◌}
 use Rattle.std.specs.List.{list_all, IsDistinct}
-use Rattle.std.specs.Str.{str_eq_ignore_ascii_case}
+use Rattle.std.specs.Str.{bytes_eq, str_eq_ignore_ascii_case}
 use Rattle.php_first_tokens.specs.declared.token.Lexeme.{Lexeme}
 use Rattle.php_first_tokens.specs.declared.token.Lexeme.TheVariants.{Variable, Int, Echo, Equals, Semicolon, Comma, Plus, Minus, Star, Open, Close}
 use Rattle.php_first_tokens.specs.declared.token.Token.{Token}
@@ -104,5 +104,5 @@ pub record IsCut (file : List ℕ) (names : List (List ℕ)) (tokens : List Toke
   pub opens : Opens file body
   pub cut : Cut names 1 body tokens
   pub numbered : IsNumbered 0 tokens (length names)
-  pub distinct : IsDistinct names
+  pub distinct : IsDistinct bytes_eq names
   pub named : All (λ name. is_name name ≡ true) names
