@@ -2,6 +2,7 @@
 // (conversions, comparison, operators, coercion to a declared type).
 #![tactic(auto)]
 
+mod decimal;
 mod error_kind;
 mod fault;
 mod form;
@@ -15,7 +16,7 @@ mod text;
 pub use error_kind::ErrorKind;
 pub use fault::{Fault, Stopped};
 pub use form::Form;
-pub use key::Key;
+pub use key::{Key, key_of};
 pub use op::Op;
 pub use order::Order;
 pub use scalar::Scalar;
