@@ -1,0 +1,4 @@
+pub mod Decimal
+pub mod DecimalExamples
+pub mod Key
+pub mod KeyExamples

@@ -1,0 +1,47 @@
+// Keys of arrays.
+ghost use Rattle.std.specs.Prelude.{◌≡◌, nat_eq};
+ghost use Rattle.std.specs.Cmp.Lexicographic.{pointwise};
+ghost use Rattle.std.specs.Fmt.{signed_decimal};
+ghost use Rattle.php_value.specs.Key.{key_of_text, key_of_scalar};
+
+use crate::decimal::written_int;
+use crate::scalar::Scalar;
+use crate::text::Text;
+use itoa::Buffer;
+
+/// What an entry of an array is found by.
+#[derive(Debug, Drop, Eq, Hash, PartialEq)]
+pub enum Key {
+    Int(i64),
+    Str(Text),
+}
+
+/// The key that a value stands for: the decimal text of an integer is that integer, `true` and `false` are 1 and 0,
+/// and null is the empty text.
+pub fn key_of(v: Scalar) -> Key
+    ensures { result ≡ key_of_scalar v }
+{
+    match v {
+        Scalar::Null => Key::Str(Text::empty()),
+        Scalar::Bool(b) => Key::Int(i64::from(b)),
+        Scalar::Int(i) => Key::Int(i),
+        Scalar::Str(text) => key_of_text(text),
+    }
+}
+
+fn key_of_text(text: Text) -> Key
+    ensures { result ≡ key_of_text text }
+{
+    match written_int(text.bytes()) {
+        Some(i) if is_decimal_text(i, text.bytes()) => Key::Int(i),
+        _ => Key::Str(text),
+    }
+}
+
+// `bytes` are the decimal text of `i`.
+fn is_decimal_text(i: i64, bytes: &[u8]) -> bool
+    ensures { result ≡ pointwise nat_eq bytes.now (signed_decimal i) }
+{
+    let mut buffer = Buffer::new();
+    bytes == buffer.format(i).as_bytes()
+}

@@ -1,0 +1,11 @@
+// How two values compare.
+
+/// The outcome of a comparison.
+#[derive(Clone, Copy, Debug, Eq, PartialEq)]
+pub enum Order {
+    Less,
+    Same,
+    More,
+    /// Neither below, equal nor above.
+    Apart,
+}

@@ -1,0 +1,99 @@
+// Shared bytes that do not change.
+ghost use Rattle.std.specs.Prelude.{◌≡◌, [], IfOk};
+
+use php_base::NoMemory;
+use std::alloc::Global;
+use std::hash::{Hash, Hasher};
+use std::marker::Model;
+use std::rc::Rc;
+
+/// Bytes that do not change, with as many owners as there are.
+#[derive(Debug, Drop)]
+pub struct Text {
+    // `None` is the empty text, which takes no memory.
+    bytes: Option<Rc<Vec<u8>>>,
+}
+
+impl Model for Text {
+    ghost use Rattle.std.specs.Prelude.{List, ℕ, []};
+    ghost use Rattle.std.specs.Option.{option_map_or};
+
+    ghost Value = { List ℕ };
+
+    ghost view = { λ t. option_map_or (λ r. r.value.items) t.bytes [] };
+}
+
+impl Text {
+    /// The text without bytes.
+    pub fn empty() -> Text
+        ensures { result ≡ [] }
+    {
+        Text { bytes: None }
+    }
+
+    /// A text of its own with these bytes.
+    pub fn from_bytes(alloc: Global, bytes: &[u8]) -> Result<Text, NoMemory>
+        ensures { IfOk result (λ t. t ≡ bytes.now) }
+    {
+        let copied = bytes.to_vec(alloc)?;
+        let bytes = Rc::new(alloc, copied)?;
+        Ok(Text { bytes: Some(bytes) })
+    }
+
+    /// Its bytes.
+    pub fn bytes(&self) -> &[u8]
+        ensures { result.now ≡ self.now }
+    {
+        match &self.bytes {
+            None => &[],
+            Some(bytes) => bytes.as_slice(),
+        }
+    }
+
+    /// A further owner of the same bytes, which are not copied.
+    pub fn share(&self) -> Result<Text, NoMemory>
+        ensures { IfOk result (λ t. t ≡ self.now) }
+    {
+        match &self.bytes {
+            None => Ok(Text { bytes: None }),
+            Some(bytes) => Ok(Text {
+                bytes: Some(bytes.clone()?),
+            }),
+        }
+    }
+}
+
+impl PartialEq for Text {
+    ghost use Rattle.std.specs.Prelude.{nat_eq};
+    ghost use Rattle.std.specs.Cmp.Lexicographic.{pointwise};
+    ghost use Rattle.std.specs.Cmp.Rules.{comparing};
+    ghost use Rattle.std.proofs.Common.{rules};
+
+    ghost eq = { pointwise nat_eq };
+
+    ghost laws = { Prim.search (comparing, rules) };
+
+    fn eq(&self, other: &Text) -> bool {
+        self.bytes() == other.bytes()
+    }
+}
+
+impl Eq for Text {
+    ghost use Rattle.std.specs.Cmp.Lexicographic.{nat_list_eq_equiv};
+
+    ghost laws = { nat_list_eq_equiv };
+}
+
+impl Hash for Text {
+    ghost use Rattle.std.specs.Hash as fed;
+    ghost use Rattle.std.specs.Cmp.Rules.{hashing};
+    ghost use Rattle.std.proofs.Common.{rules};
+
+    ghost hash_input = { fed.slice fed.u8 };
+
+    ghost respects_eq = { Prim.search (hashing, rules) };
+
+    fn hash<H: Hasher>(&self, state: &mut H) {
+        self.bytes().hash(state);
+    }
+}
