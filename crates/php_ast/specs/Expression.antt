@@ -7,6 +7,9 @@ use Rattle.php_ast.specs.declared.first_path.Sum.{Sum}
 use Rattle.php_ast.specs.declared.first_path.Term.{Term}
 use Rattle.php_ast.specs.declared.first_path.Sign.{Sign}
 use Rattle.php_ast.specs.declared.first_path.Sign.TheVariants.{Plus, Minus}
+use Rattle.php_ast.specs.declared.first_path.Action.{Action}
+use Rattle.php_ast.specs.declared.first_path.Action.TheVariants.{Assign, Echo}
+use Rattle.php_ast.specs.declared.first_path.Statement as tree
 
 pub data Expression : Type 0 where
   int : ℤ → Expression
@@ -61,3 +64,20 @@ product_view p = product (product_parts p)
 
 abbrev pub sum_view : Sum Atom → Expression
 sum_view s = sum (sum_parts s)
+
+-- What a statement does: it gives a variable a value, or writes values.
+pub data Command : Type 0 where
+  assign : ℕ → Expression → Command
+  echo : List Expression → Command
+
+-- a statement, and the line of its first token
+pub record Statement : Type 0 where
+  pub line : ℕ
+  pub command : Command
+
+abbrev pub command_view : Action → Command
+command_view (Assign k s) = assign k (sum_view s)
+command_view (Echo ss) = echo (map sum_view ss)
+
+abbrev pub statement_view : tree.Statement → Statement
+statement_view s = record { line = s.line; command = command_view s.action }
