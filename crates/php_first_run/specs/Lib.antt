@@ -1,0 +1,3 @@
+pub mod Evaluation
+pub mod Running
+pub mod Walking
