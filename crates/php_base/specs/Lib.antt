@@ -1,3 +1,6 @@
 pub mod Counts
 pub mod Files
+pub mod MemFiles
+pub mod MemShelf
+pub mod MemSink
 pub mod Written

@@ -2,6 +2,8 @@
 // made, and the outside of the engine: a shelf that gives files and a sink that takes bytes.
 #![tactic(auto)]
 
+mod mem_shelf;
+mod mem_sink;
 mod memory;
 mod shelf;
 mod sink;
