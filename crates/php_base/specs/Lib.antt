@@ -3,4 +3,5 @@ pub mod Files
 pub mod MemFiles
 pub mod MemShelf
 pub mod MemSink
+pub mod StdShelf
 pub mod Written

@@ -7,7 +7,13 @@ mod mem_sink;
 mod memory;
 mod shelf;
 mod sink;
+mod std_shelf;
+mod std_sink;
 
+pub use mem_shelf::MemShelf;
+pub use mem_sink::MemSink;
 pub use memory::{Ledger, NoMemory};
 pub use shelf::{Shelf, ShelfFail};
 pub use sink::{Failed, Sink, put_all};
+pub use std_shelf::StdShelf;
+pub use std_sink::StdSink;
