@@ -1,4 +1,5 @@
 pub mod Counts
+pub mod Examples
 pub mod Files
 pub mod MemFiles
 pub mod MemShelf

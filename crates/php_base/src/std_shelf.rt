@@ -97,3 +97,38 @@ fn read_first<F: Read>(file: &mut F, alloc: Global, limit: usize) -> io::Result<
     }
     Err(io::Error::from(ErrorKind::Interrupted))
 }
+
+#[cfg(test)]
+mod tests {
+    use super::*;
+    use std::test::Fail;
+
+    /// A reader that is interrupted, gives two bytes, and breaks.
+    #[derive(Drop)]
+    struct Breaks {
+        reads: u32,
+    }
+
+    impl Read for Breaks {
+        fn read(&mut self, piece: &mut [u8]) -> io::Result<usize> {
+            self.reads = self.reads.saturating_add(1);
+            match self.reads {
+                1 => Err(io::Error::from(ErrorKind::Interrupted)),
+                2 => Ok(piece.len().min(2)),
+                _ => Err(io::Error::from(ErrorKind::BrokenPipe)),
+            }
+        }
+    }
+
+    #[test]
+    fn a_read_that_fails_midway_fails_the_whole(rt: HostRuntime) -> Result<(), Fail> {
+        let mut file = Breaks { reads: 0 };
+        let failed = read_first(&mut file, rt.alloc(), 5);
+        assert_eq!(rt;
+            failed.err().map(|error| error.kind()),
+            Some(ErrorKind::BrokenPipe)
+        );
+        assert_eq!(rt; file.reads, 3);
+        Ok(())
+    }
+}
