@@ -1,0 +1,5 @@
+pub mod Names
+pub mod Numerals
+pub mod Fronts
+pub mod Variables
+pub mod Rest
