@@ -3,3 +3,4 @@ pub mod Numerals
 pub mod Fronts
 pub mod Variables
 pub mod Rest
+mod Examples

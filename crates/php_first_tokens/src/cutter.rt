@@ -13,6 +13,9 @@ use std::alloc::Global;
 /// What a file begins with, in any letter case.
 const TAG: &[u8; 5] = b"<?php";
 
+/// What ends a line, alone.
+const LINE_FEED: u8 = b'\n';
+
 fn begins_blank(bytes: &[u8]) -> bool
     ensures { result ≡ begins_blank bytes.now }
 {
@@ -45,7 +48,7 @@ pub fn cut_file<'a>(alloc: Global, file: &'a [u8]) -> Result<Option<Tokens<'a>>,
     let mut names = IndexSet::new(alloc);
     while at < file.len() {
         if is_blank(file[at]) {
-            if file[at] == b'\n' {
+            if file[at] == LINE_FEED {
                 line += 1;
             }
             at += 1;

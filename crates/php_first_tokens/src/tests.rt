@@ -35,8 +35,8 @@ fn script_with_variables(rt: HostRuntime) -> Result<(), Fail> {
         );
     }
     assert_eq!(rt; cut.names.len(), 3);
-    assert!(rt; cut.names[0] == b"a");
-    assert!(rt; cut.names[2] == b"c");
+    assert!(rt; cut.names[0] == b"a".as_slice());
+    assert!(rt; cut.names[2] == b"c".as_slice());
     Ok(())
 }
 

@@ -9,7 +9,7 @@ use Rattle.php_first_tokens.proofs.Fronts.{seen_at_most}
 use Rattle.php_first_tokens.proofs.Names.{no_names}
 use Rattle.php_first_tokens.proofs.Rest.{Reached, start, does_open, long_enough, opens_not, pass_blank_at, pass_lexeme_at, within_at, stuck_at, is_cut, only_cut}
 use Rattle.php_first_tokens.proofs.cutter.cut_file.Goals as goal
-use Rattle.php_first_tokens.proofs.cutter.cut_file.Goals.{then-file-at-eq10, else-file-at-eq10}
+use Rattle.php_first_tokens.proofs.cutter.cut_file.Goals.{then-file-at-eq-LINE_FEED, else-file-at-eq-LINE_FEED}
 
 start_with : (file : List ℕ) (keys : List (Bor (List ℕ))) (tokens : List Token) → Rattle.php_first_tokens.specs.Steps.opens file ≡ true → keys ≡ [] → tokens ≡ [] →
     Reached file (names_of keys) 1 (drop 5 file) tokens
@@ -41,13 +41,13 @@ line_after line after byte (inr goes_on) = (0, rw (ne_eqb byte 10 goes_on.0) ref
 pub loop-at-preserved-then-is_blank : goal.loop-at-preserved-then-is_blank
 loop-at-preserved-then-is_blank c =
     let byte = get_or c.args.file.now c.loop-at.at 0 in
-    let cases : ((byte ≡ 10) × (c.if-file-at-eq10.line ≡ c.loop-at.line + 1)) ⊎ ((byte ≡ 10 → ⊥) × (c.if-file-at-eq10.line ≡ c.loop-at.line)) =
-    elim c.if-file-at-eq10.branch [
-      | then-file-at-eq10 w ↦ inl (w.if-file-at-eq10.true, w.line-is)
-      | else-file-at-eq10 w ↦ inr (w.if-file-at-eq10.false, w.line-is)
+    let cases : ((byte ≡ 10) × (c.if-file-at-eq-LINE_FEED.line ≡ c.loop-at.line + 1)) ⊎ ((byte ≡ 10 → ⊥) × (c.if-file-at-eq-LINE_FEED.line ≡ c.loop-at.line)) =
+    elim c.if-file-at-eq-LINE_FEED.branch [
+      | then-file-at-eq-LINE_FEED w ↦ inl (w.if-file-at-eq-LINE_FEED.true, w.line-is)
+      | else-file-at-eq-LINE_FEED w ↦ inr (w.if-file-at-eq-LINE_FEED.false, w.line-is)
     ] in
     let R : ℕ → Type 0 = λ line. Reached c.args.file.now (names_of c.loop-at.names.keys) line (drop (c.loop-at.at + 1) c.args.file.now) c.loop-at.tokens.items in
-    let after = line_after c.loop-at.line c.if-file-at-eq10.line byte cases in
+    let after = line_after c.loop-at.line c.if-file-at-eq-LINE_FEED.line byte cases in
     let i = c.loop-at.invariant in
     record {
       within = omega arith;
