@@ -1,6 +1,6 @@
 -- A machine that reads statements one token at a time. It says of no token what it said before, and
 -- never goes back: its runs recurse on the tokens.
-use Rattle.std.specs.Prelude.{◌≡◌, ℕ, ◌+◌, ◌-◌, ◌<◌, Bool, true, false, nat_lt, List, [], ◌∷◌, ◌++◌, length, Option, Some, None, if◌then◌else◌}
+use Rattle.std.specs.Prelude.{ℕ, nat_lt, List, [], ◌∷◌, ◌++◌, length, Option, Some, None, if◌then◌else◌}
 use Rattle.php_ast.specs.Expression.{Expression, int, variable, group, times, joined, Command, assign, echo, Statement}
 use Rattle.php_ast.specs.declared.first_path.Sign.{Sign}
 use Rattle.php_ast.specs.declared.first_path.Sign.TheVariants as sign

@@ -53,11 +53,15 @@ Spells (times l r) tokens rest = (a : ℕ) × (right : List Token) × Spells l t
 Spells (plus l r) tokens rest = (a : ℕ) × (right : List Token) × Spells l tokens (at_line Plus a ∷ right) × Spells r right rest
 Spells (minus l r) tokens rest = (a : ℕ) × (right : List Token) × Spells l tokens (at_line Minus a ∷ right) × Spells r right rest
 
--- a spelled sum with at most 128 parentheses open at once
-pub record SpellsSum (e : Expression) (tokens rest : List Token) : Type 0 where
-  pub grouped : Fits sum e
-  pub within : Within 128 e
+-- A spelled expression that has a place at the level, with at most so many parentheses open at once.
+pub record SpellsAt (level : Level) (depth : ℕ) (e : Expression) (tokens rest : List Token) : Type 0 where
+  pub grouped : Fits level e
+  pub within : Within depth e
   pub spelled : Spells e tokens rest
+
+-- a spelled sum with at most 128 parentheses open at once
+abbrev pub SpellsSum : Expression → List Token → List Token → Type 0
+SpellsSum = SpellsAt sum 128
 
 -- the parts of an `echo`, at least one, with commas between them
 abbrev pub SpellsParts : List Expression → List Token → List Token → Type 0
