@@ -16,7 +16,7 @@ use crate::message::put_message;
 use crate::report::{Kind, Report};
 use crate::script::read_script;
 use crate::words::{Request, requested};
-use php_ast::first_path::Statement;
+use php_ast::first_path::Script;
 use php_base::{NoMemory, Shelf, ShelfFail, Sink};
 use php_first_run::{Value, walk};
 use std::alloc::Global;
@@ -37,19 +37,18 @@ fn nulls(alloc: Global, count: u32) -> Result<Vec<Value>, NoMemory>
 /// Runs a script from its beginning.
 fn run_script<O: Sink>(
     alloc: Global,
-    variables: u32,
-    statements: &[Statement],
+    script: &Script,
     allowance: u64,
     out: &mut O,
 ) -> Answer<'static>
-    ensures { (output : List ℕ) × RunComesTo (answer_of (run_of allowance variables (map statement_view statements.now)))
+    ensures { (output : List ℕ) × RunComesTo (answer_of (run_of allowance script.now.variables (map statement_view script.now.statements)))
         (record { written = O.written out.old; faults = O.faults out.old }) (record { written = O.written out.new; faults = O.faults out.new })
         (shown result output) }
 {
-    let Ok(mut values) = nulls(alloc, variables) else {
+    let Ok(mut values) = nulls(alloc, script.variables) else {
         return starved();
     };
-    let walked = walk(&mut values, statements, allowance, out);
+    let walked = walk(&mut values, script.statements.as_slice(), allowance, out);
     after_run(walked)
 }
 
@@ -68,13 +67,7 @@ fn answer_bytes<'a, O: Sink>(
         return file_too_long(request.file);
     }
     match read_script(alloc, bytes) {
-        Ok(Some(script)) => run_script(
-            alloc,
-            script.variables,
-            script.statements.as_slice(),
-            request.allowance,
-            out,
-        ),
+        Ok(Some(script)) => run_script(alloc, &script, request.allowance, out),
         Ok(None) => refused(),
         Err(NoMemory) => starved(),
     }

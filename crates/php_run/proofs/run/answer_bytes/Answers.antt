@@ -1,6 +1,5 @@
 use Rattle.std.proofs.Common.{◌≡◌, ◌≤◌, ℕ, List, [], length, map, Some, None, subst, sym, refl, arith}
 use Rattle.php_ast.specs.Expression.{statement_view, Statement}
-use Rattle.php_ast.specs.declared.first_path.Statement as tree
 use Rattle.php_first_run.specs.Walking.{Stream}
 use Rattle.php_first_run.proofs.Written.{nothing_written}
 use Rattle.php_run.specs.Answer.{answer_of, run_of, too_many, read, runs, refused, IsOwedFor}
@@ -18,10 +17,9 @@ pub returns-in-Ok-Some : goal.returns-in-Ok-Some
 returns-in-Ok-Some g c = λ whole shelf shelf' taken.
     let short : length c.args.bytes.now ≤ 1048576 = omega arith in
     let same : c.args.bytes.now ≡ whole = taken_whole c.args.bytes.now whole 1048576 taken short in
-    let statements = c.as_slice.result.now in
+    let statements = c.in-Ok-Some.script.statements in
     let found : IsScript c.args.bytes.now c.in-Ok-Some.script.variables (map statement_view c.in-Ok-Some.script.statements) = rw c.in-Ok-Some.field-0-is at c.in-Ok-Some.ensures.found in
     let P : List ℕ → Type 0 = λ l. IsScript l c.in-Ok-Some.script.variables (map statement_view statements) in
-    let R : List tree.Statement → Type 0 = λ l. IsScript c.args.bytes.now c.in-Ok-Some.script.variables (map statement_view l) in
     let Q : List ℕ → Type 0 = λ l. length l ≤ 1048576 in
     let end = c.run_script.ensures in
     let s = g.O.Sink in
@@ -31,7 +29,7 @@ returns-in-Ok-Some g c = λ whole shelf shelf' taken.
       comes_by_run (Some (record { file = c.args.request.now.file.now; allowance = c.args.request.now.allowance })) (Some whole) shelf shelf' old new
           (answer_of (run_of c.args.request.now.allowance c.in-Ok-Some.script.variables (map statement_view statements)))
           (shown c.run_script.result end.0)
-          (read (subst Q same short) (runs c.in-Ok-Some.script.variables (map statement_view statements) (subst P same (subst R (sym c.as_slice.ensures) found)) refl))
+          (read (subst Q same short) (runs c.in-Ok-Some.script.variables (map statement_view statements) (subst P same found) refl))
           end.1,
     )
 
