@@ -49,18 +49,25 @@ text_of (Truth false) = []
 text_of (Int z) = signed_decimal z
 text_of (Str t) = t
 
--- a text fits the type int where it begins with an integer
-abbrev pub coerced_form : Form → Result Scalar Stopped
-coerced_form NoNumber = Err (Throws type_mismatch)
-coerced_form (IntForm z) = Ok (Int z)
-coerced_form (LeadInt z) = Ok (Int z)
-coerced_form Float = Err (Ends FloatNeeded)
-coerced_form LeadFloat = Err (Ends FloatNeeded)
+-- the integer that a text begins with
+abbrev pub fitting_form : Form → Result ℤ Stopped
+fitting_form NoNumber = Err (Throws type_mismatch)
+fitting_form (IntForm z) = Ok z
+fitting_form (LeadInt z) = Ok z
+fitting_form Float = Err (Ends FloatNeeded)
+fitting_form LeadFloat = Err (Ends FloatNeeded)
+
+abbrev pub fitting_int : List ℕ → Result ℤ Stopped
+fitting_int t = fitting_form (form_of t)
+
+abbrev pub as_scalar : Result ℤ Stopped → Result Scalar Stopped
+as_scalar (Ok z) = Ok (Int z)
+as_scalar (Err e) = Err e
 
 -- what each type takes besides its own values, unless types are strict
 abbrev pub converted : ScalarType → Scalar → Result Scalar Stopped
 converted IntType (Truth b) = Ok (Int (bit_of b))
-converted IntType (Str t) = coerced_form (form_of t)
+converted IntType (Str t) = as_scalar (fitting_int t)
 converted StrType (Int z) = Ok (Str (signed_decimal z))
 converted StrType (Truth b) = Ok (Str (text_of (Truth b)))
 converted BoolType (Int z) = Ok (Truth (bool_of (Int z)))

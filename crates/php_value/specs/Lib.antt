@@ -12,3 +12,4 @@ pub mod KeyExamples
 pub mod Operator
 pub mod OperatorExamples
 pub mod Reading
+pub mod Stopped

@@ -35,8 +35,14 @@ impl Text {
     pub fn from_bytes(alloc: Global, bytes: &[u8]) -> Result<Text, NoMemory>
         ensures { IfOk result (λ t. t ≡ bytes.now) }
     {
-        let copied = bytes.to_vec(alloc)?;
-        let bytes = Rc::new(alloc, copied)?;
+        Text::from_vec(alloc, bytes.to_vec(alloc)?)
+    }
+
+    /// The text with the bytes of `bytes`, which are moved and not copied.
+    pub fn from_vec(alloc: Global, bytes: Vec<u8>) -> Result<Text, NoMemory>
+        ensures { IfOk result (λ t. t ≡ bytes.items) }
+    {
+        let bytes = Rc::new(alloc, bytes)?;
         Ok(Text { bytes: Some(bytes) })
     }
 
