@@ -1,5 +1,6 @@
 // Keys of arrays.
-ghost use Rattle.std.specs.Prelude.{◌≡◌, nat_eq};
+ghost use Rattle.std.specs.Prelude.{◌≡◌, ◌↔◌, nat_eq, IsTrue};
+ghost use Rattle.php_value.specs.declared.key.Key.{Key};
 ghost use Rattle.std.specs.Cmp.Lexicographic.{pointwise};
 ghost use Rattle.std.specs.Fmt.{signed_decimal};
 ghost use Rattle.php_value.specs.Key.{key_of_text, key_of_scalar};
@@ -15,6 +16,11 @@ pub enum Key {
     Int(i64),
     Str(Text),
 }
+
+/// Keys are equal where `==` says so, and nowhere else. An ordered map over keys so holds one entry for each key.
+pub fn equal_keys_are_one_key()
+    ensures { (a b : Key) → IsTrue (⟦<Key as PartialEq>⟧.eq a b) ↔ (a ≡ b) }
+{}
 
 /// The key that a value stands for: the decimal text of an integer is that integer, `true` and `false` are 1 and 0,
 /// and null is the empty text.
