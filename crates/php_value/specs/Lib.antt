@@ -12,4 +12,5 @@ pub mod KeyExamples
 pub mod Operator
 pub mod OperatorExamples
 pub mod Reading
+pub mod Scalar
 pub mod Stopped

@@ -108,10 +108,9 @@ pub fn numeric_form(bytes: &[u8]) -> Form
     let Some(len) = number_len(bytes) else {
         return Form::None;
     };
-    match (
-        written_int(behind_blanks(&bytes[..len])),
-        len == bytes.len(),
-    ) {
+    let number = written_int(behind_blanks(&bytes[..len]));
+    let is_whole = len == bytes.len();
+    match (number, is_whole) {
         (Some(i), true) => Form::Int(i),
         (Some(i), false) => Form::LeadInt(i),
         (None, true) => Form::Float,

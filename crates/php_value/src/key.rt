@@ -9,12 +9,29 @@ use crate::decimal::written_int;
 use crate::scalar::Scalar;
 use crate::text::Text;
 use itoa::Buffer;
+use php_base::NoMemory;
 
 /// What an entry of an array is found by.
 #[derive(Debug, Drop, Eq, Hash, PartialEq)]
 pub enum Key {
     Int(i64),
     Str(Text),
+}
+
+impl Key {
+    ghost use Rattle.std.specs.Prelude.{◌≡◌, false, IfOk, IsOk};
+    ghost use Rattle.php_value.specs.Scalar.{is_text_key};
+
+    /// The same key once more. A text is shared and not copied, and an integer takes no memory.
+    pub fn share(&self) -> Result<Key, NoMemory>
+        ensures same { IfOk result (λ k. k ≡ self.now) }
+        ensures takes_no_memory { is_text_key self.now ≡ false → IsOk result }
+    {
+        match self {
+            Key::Int(i) => Ok(Key::Int(*i)),
+            Key::Str(text) => Ok(Key::Str(text.share()?)),
+        }
+    }
 }
 
 /// Keys are equal where `==` says so, and nowhere else. An ordered map over keys so holds one entry for each key.

@@ -1,6 +1,7 @@
 // The operators on values.
 ghost use Rattle.std.specs.Prelude.{◌≡◌, ◌≢◌, false};
 ghost use Rattle.php_value.specs.Conversion.{text_of};
+ghost use Rattle.php_value.specs.Scalar.{is_text};
 ghost use Rattle.php_value.specs.Stopped.{IsUnlessNoMemory};
 ghost use Rattle.php_value.specs.Operator.{arith_of, complement_of, countable, counted_down, counted_up, makes_text, on_numbers};
 
@@ -73,7 +74,8 @@ fn text_bytes<'a>(v: &'a Scalar, digits: &'a mut Buffer) -> &'a [u8]
 
 /// `~`: of an integer all bits, of a text all bits of its bytes. Of null and bools it throws.
 pub fn complement(alloc: Global, v: &Scalar) -> Result<Scalar, Stopped>
-    ensures { IsUnlessNoMemory result (complement_of v.now) }
+    ensures value { IsUnlessNoMemory result (complement_of v.now) }
+    ensures takes_no_memory { is_text v.now ≡ false → result ≡ complement_of v.now }
 {
     match v {
         Scalar::Int(i) => Ok(Scalar::Int(-1 - *i)),

@@ -8,3 +8,6 @@ mod summing;
 pub use counting::count_key;
 pub use sorting::sort_by_order;
 pub use summing::add;
+
+#[cfg(test)]
+mod tests;
