@@ -15,7 +15,7 @@ use Rattle.php_value.specs.declared.scalar_type.ScalarType.{ScalarType}
 use Rattle.php_value.specs.declared.scalar_type.ScalarType.TheVariants.{Int as IntType, Str as StrType, Bool as BoolType}
 use Rattle.php_value.specs.Form.{form_of}
 use Rattle.php_value.specs.Key.{bit_of}
-use Rattle.php_value.specs.ErrorKind.{type_mismatch}
+use Rattle.php_value.specs.declared.error_kind.TheConstants.ErrorKind.{TYPE_MISMATCH}
 
 -- neither the empty text nor the text `0`, whose byte is 48
 abbrev pub has_truth : List ℕ → Bool
@@ -51,7 +51,7 @@ text_of (Str t) = t
 
 -- the integer that a text begins with
 abbrev pub fitting_form : Form → Result ℤ Stopped
-fitting_form NoNumber = Err (Throws type_mismatch)
+fitting_form NoNumber = Err (Throws TYPE_MISMATCH)
 fitting_form (IntForm z) = Ok z
 fitting_form (LeadInt z) = Ok z
 fitting_form Float = Err (Ends FloatNeeded)
@@ -72,12 +72,12 @@ converted StrType (Int z) = Ok (Str (signed_decimal z))
 converted StrType (Truth b) = Ok (Str (text_of (Truth b)))
 converted BoolType (Int z) = Ok (Truth (bool_of (Int z)))
 converted BoolType (Str t) = Ok (Truth (bool_of (Str t)))
-converted t v = Err (Throws type_mismatch)
+converted t v = Err (Throws TYPE_MISMATCH)
 
 -- a type takes its own values as they are
 abbrev pub coerced : ScalarType → Bool → Scalar → Result Scalar Stopped
 coerced IntType is_strict (Int z) = Ok (Int z)
 coerced StrType is_strict (Str t) = Ok (Str t)
 coerced BoolType is_strict (Truth b) = Ok (Truth b)
-coerced t true v = Err (Throws type_mismatch)
+coerced t true v = Err (Throws TYPE_MISMATCH)
 coerced t false v = converted t v

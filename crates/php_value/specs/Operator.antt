@@ -15,7 +15,7 @@ use Rattle.php_value.specs.declared.scalar.Scalar.{Scalar}
 use Rattle.php_value.specs.declared.scalar.Scalar.TheVariants.{Null, Bool as Truth, Int, Str}
 use Rattle.php_value.specs.Conversion.{int_of, text_of}
 use Rattle.php_value.specs.Decimal.{fits_int}
-use Rattle.php_value.specs.ErrorKind.{unsupported_operands, not_countable, division_by_zero, arithmetic_error}
+use Rattle.php_value.specs.declared.error_kind.TheConstants.ErrorKind.{UNSUPPORTED_OPERANDS, NOT_COUNTABLE, DIVISION_BY_ZERO, ARITHMETIC}
 use Rattle.php_value.specs.Form.{form_of}
 
 -- an integer of 64 bits is the result, and any other overflows
@@ -36,23 +36,23 @@ power x (negsuc n) = Err (Ends FloatNeeded)
 -- the exact quotient
 abbrev pub quotient : ℤ → ℤ → Result Scalar Stopped
 quotient x y =
-    if int_eq y (pos 0) then Err (Throws division_by_zero)
+    if int_eq y (pos 0) then Err (Throws DIVISION_BY_ZERO)
     else if int_eq (int_rem x y) (pos 0) then int_result (int_div x y)
     else Err (Ends InexactQuotient)
 
 -- the remainder has the sign of the left
 abbrev pub remainder : ℤ → ℤ → Result Scalar Stopped
-remainder x y = if int_eq y (pos 0) then Err (Throws division_by_zero) else Ok (Int (int_rem x y))
+remainder x y = if int_eq y (pos 0) then Err (Throws DIVISION_BY_ZERO) else Ok (Int (int_rem x y))
 
 -- the low 64 bits of the product with a power of two
 abbrev pub shifted_left : ℤ → ℤ → Result Scalar Stopped
 shifted_left x (pos n) = Ok (Int (if nat_lt n 64 then int_shl w64 x n else pos 0))
-shifted_left x (negsuc n) = Err (Throws arithmetic_error)
+shifted_left x (negsuc n) = Err (Throws ARITHMETIC)
 
 -- the quotient by a power of two, rounded down
 abbrev pub shifted_right : ℤ → ℤ → Result Scalar Stopped
 shifted_right x (pos n) = Ok (Int (if nat_lt n 64 then int_shr x n else (if int_lt x (pos 0) then negsuc 0 else pos 0)))
-shifted_right x (negsuc n) = Err (Throws arithmetic_error)
+shifted_right x (negsuc n) = Err (Throws ARITHMETIC)
 
 abbrev pub on_ints : Op → ℤ → ℤ → Result Scalar Stopped
 on_ints Add x y = int_result (x +ℤ y)
@@ -113,14 +113,14 @@ makes_text op a b = false
 abbrev pub complement_of : Scalar → Result Scalar Stopped
 complement_of (Int z) = Ok (Int (negsuc 0 -ℤ z))
 complement_of (Str t) = Ok (Str (map (λ c. 255 - c) t))
-complement_of v = Err (Throws unsupported_operands)
+complement_of v = Err (Throws UNSUPPORTED_OPERANDS)
 
 -- the integer that a text is as a whole
 abbrev pub countable_form : Form → Result ℤ Stopped
 countable_form (IntForm z) = Ok z
 countable_form Float = Err (Ends FloatNeeded)
 countable_form LeadFloat = Err (Ends FloatNeeded)
-countable_form f = Err (Throws not_countable)
+countable_form f = Err (Throws NOT_COUNTABLE)
 
 abbrev pub countable : List ℕ → Result ℤ Stopped
 countable t = countable_form (form_of t)

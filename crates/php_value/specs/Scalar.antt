@@ -3,7 +3,7 @@ use Rattle.std.specs.Prelude.{Bool, true, false}
 use Rattle.php_value.specs.declared.key.Key.{Key}
 use Rattle.php_value.specs.declared.key.Key.TheVariants.{Int as IntKey, Str as TextKey}
 use Rattle.php_value.specs.declared.scalar.Scalar.{Scalar}
-use Rattle.php_value.specs.declared.scalar.Scalar.TheVariants.{Null, Bool as Truth, Int, Str}
+use Rattle.php_value.specs.declared.scalar.Scalar.TheVariants.{Str}
 
 abbrev pub is_text : Scalar → Bool
 is_text (Str t) = true

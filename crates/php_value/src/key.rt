@@ -1,8 +1,9 @@
 // Keys of arrays.
-ghost use Rattle.std.specs.Prelude.{◌≡◌, ◌↔◌, nat_eq, IsTrue};
+ghost use Rattle.std.specs.Prelude.{◌≡◌, ◌↔◌, ℤ, nat_eq, FitsSigned, IsTrue};
 ghost use Rattle.php_value.specs.declared.key.Key.{Key};
 ghost use Rattle.std.specs.Cmp.Lexicographic.{pointwise};
 ghost use Rattle.std.specs.Fmt.{signed_decimal};
+ghost use Rattle.std.specs.Int.{w64};
 ghost use Rattle.php_value.specs.Key.{key_of_text, key_of_scalar};
 
 use crate::decimal::written_int;
@@ -37,6 +38,11 @@ impl Key {
 /// Keys are equal where `==` says so, and nowhere else. An ordered map over keys so holds one entry for each key.
 pub fn equal_keys_are_one_key()
     ensures { (a b : Key) → IsTrue (⟦<Key as PartialEq>⟧.eq a b) ↔ (a ≡ b) }
+{}
+
+/// The decimal text of an integer is the key of that integer.
+pub fn decimal_text_is_int_key()
+    ensures { (z : ℤ) → FitsSigned w64 z → key_of_text (signed_decimal z) ≡ Key.Int z }
 {}
 
 /// The key that a value stands for: the decimal text of an integer is that integer, `true` and `false` are 1 and 0,

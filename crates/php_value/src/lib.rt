@@ -25,7 +25,7 @@ pub use conversion::{to_bool, to_int, to_text};
 pub use error_kind::ErrorKind;
 pub use fault::{Fault, Stopped};
 pub use form::{Form, numeric_form};
-pub use key::{Key, equal_keys_are_one_key, key_of};
+pub use key::{Key, decimal_text_is_int_key, equal_keys_are_one_key, key_of};
 pub use op::Op;
 pub use operator::{arith, complement, count_down, count_up};
 pub use ordering::Order;
