@@ -24,7 +24,7 @@ pub use comparison::{loose, order, strict};
 pub use conversion::{to_bool, to_int, to_text};
 pub use error_kind::ErrorKind;
 pub use fault::{Fault, Stopped};
-pub use form::{Form, numeric_form};
+pub use form::{Form, longest_number_decides, numeric_form};
 pub use key::{Key, decimal_text_is_int_key, equal_keys_are_one_key, key_of};
 pub use op::Op;
 pub use operator::{arith, complement, count_down, count_up};
