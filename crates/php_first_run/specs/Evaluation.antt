@@ -1,5 +1,6 @@
 -- What expressions are worth.
-use Rattle.std.specs.Prelude.{ℕ, ℤ, pos, negsuc, ◌+ℤ◌, ◌-ℤ◌, ◌*ℤ◌, ◌^◌, Bool, nat_lt, List, Option, Some, None, slice_get, unwrap_or, if◌then◌else◌}
+use Rattle.std.specs.Prelude.{ℕ, ℤ, pos, ◌+ℤ◌, ◌-ℤ◌, ◌*ℤ◌, List, Option, Some, None, slice_get, unwrap_or, if◌then◌else◌}
+use Rattle.php_value.specs.Decimal.{fits_int}
 use Rattle.php_ast.specs.Expression.{Expression, int, variable, group, times, plus, minus}
 use Rattle.php_first_run.specs.declared.value.Value.{Value}
 use Rattle.php_first_run.specs.declared.value.Value.TheVariants.{Null, Int}
@@ -9,14 +10,9 @@ abbrev pub number_of : Value → ℤ
 number_of Null = pos 0
 number_of (Int n) = n
 
--- the integer is one of 64 bits
-abbrev pub is_int : ℤ → Bool
-is_int (pos n) = nat_lt n (2 ^ 63)
-is_int (negsuc n) = nat_lt n (2 ^ 63)
-
 -- the integer as a value; None is an overflow
 abbrev pub value_of : ℤ → Option Value
-value_of n = if is_int n then Some (Int n) else None
+value_of n = if fits_int n then Some (Int n) else None
 
 -- the operation on two numbers, the left one first; None where a part or the result overflows
 abbrev pub calculated : (ℤ → ℤ → ℤ) → Option Value → Option Value → Option Value

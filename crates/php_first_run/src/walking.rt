@@ -10,6 +10,7 @@ use crate::value::Value;
 use itoa::Buffer;
 use php_ast::first_path::{Action, Atom, Statement, Sum};
 use php_base::{Failed, Sink, put_all};
+use std::alloc::Global;
 
 /// How a run stopped.
 #[derive(Clone, Copy, Debug, PartialEq, Eq)]
@@ -66,12 +67,12 @@ fn write_value<O: Sink>(out: &mut O, value: Value) -> Result<(), Failed>
     }
 }
 
-fn echo<O: Sink>(values: &[Value], parts: &[Sum<Atom>], out: &mut O) -> Step
+fn echo<O: Sink>(alloc: Global, values: &[Value], parts: &[Sum<Atom>], out: &mut O) -> Step
     ensures { Executes (echoed values.now (map sum_view parts.now)) result values.now
         (record { written = O.written out.old; faults = O.faults out.old }) (record { written = O.written out.new; faults = O.faults out.new }) }
 {
     for part in parts {
-        let Some(value) = evaluate(values, part) else {
+        let Some(value) = evaluate(alloc, values, part) else {
             return Step::Overflow;
         };
         let Ok(()) = write_value(out, value) else {
@@ -81,10 +82,10 @@ fn echo<O: Sink>(values: &[Value], parts: &[Sum<Atom>], out: &mut O) -> Step
     Step::Done
 }
 
-fn assign(values: &mut [Value], number: u32, sum: &Sum<Atom>) -> Step
+fn assign(alloc: Global, values: &mut [Value], number: u32, sum: &Sum<Atom>) -> Step
     ensures { Assigns (assigned values.old number (evaluated values.old (sum_view sum.now))) result values.new }
 {
-    let Some(value) = evaluate(values, sum) else {
+    let Some(value) = evaluate(alloc, values, sum) else {
         return Step::Overflow;
     };
     let place = number as usize;
@@ -94,18 +95,19 @@ fn assign(values: &mut [Value], number: u32, sum: &Sum<Atom>) -> Step
     Step::Done
 }
 
-fn execute<O: Sink>(values: &mut [Value], action: &Action, out: &mut O) -> Step
+fn execute<O: Sink>(alloc: Global, values: &mut [Value], action: &Action, out: &mut O) -> Step
     ensures { Executes (step values.old (command_view action.now)) result values.new
         (record { written = O.written out.old; faults = O.faults out.old }) (record { written = O.written out.new; faults = O.faults out.new }) }
 {
     match action {
-        Action::Assign(number, sum) => assign(values, *number, sum),
-        Action::Echo(parts) => echo(values, parts.as_slice(), out),
+        Action::Assign(number, sum) => assign(alloc, values, *number, sum),
+        Action::Echo(parts) => echo(alloc, values, parts.as_slice(), out),
     }
 }
 
 /// Runs the statements over the values of the variables, with an allowance of ticks.
 pub fn walk<O: Sink>(
+    alloc: Global,
     values: &mut [Value],
     statements: &[Statement],
     allowance: u64,
@@ -123,7 +125,7 @@ pub fn walk<O: Sink>(
             };
         }
         ticks += 1;
-        let stop = match execute(values, &statement.action, out) {
+        let stop = match execute(alloc, values, &statement.action, out) {
             Step::Done => continue,
             Step::Overflow => Stop::Overflow(statement.line),
             Step::SinkFault => Stop::SinkFault,

@@ -48,7 +48,13 @@ fn run_script<O: Sink>(
     let Ok(mut values) = nulls(alloc, script.variables) else {
         return starved();
     };
-    let walked = walk(&mut values, script.statements.as_slice(), allowance, out);
+    let walked = walk(
+        alloc,
+        &mut values,
+        script.statements.as_slice(),
+        allowance,
+        out,
+    );
     after_run(walked)
 }
 
