@@ -1,2 +1,17 @@
+pub mod Bytes
+pub mod Comments
+pub mod Delimiters
 pub mod Entry
+pub mod Examples
+pub mod Heredocs
+pub mod Kept
+pub mod Modes
+pub mod Numbers
+pub mod PieceKept
+pub mod Pieces
+pub mod Punctuators
+pub mod Reading
+pub mod Search
+pub mod Templates
 pub mod Token
+pub mod Words

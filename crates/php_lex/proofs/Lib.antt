@@ -1,0 +1,5 @@
+pub mod CommentLemmas
+pub mod NumberLemmas
+pub mod RunLemmas
+pub mod TableLemmas
+pub mod TemplateLemmas
