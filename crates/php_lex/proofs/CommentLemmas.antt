@@ -110,3 +110,8 @@ pub raw_backslash : (text : Text) (at k : ℕ) → Passes (is_byte2 39 92) (part
 raw_backslash text at k passes other =
     let e : slice_index (part text at) k ≡ get_or text (at + k) 0 = ap (λ t. get_or t k 0) (take_rest text at) ∙ get_or-drop at text k 0 in
     second_of (get_or text (at + k) 0) (subst (λ b. is_byte2 39 92 b ≡ true) e passes) other
+
+-- neither tag is a tag
+pub no_tag : (t : Text) → begins_echo t ≡ false → open_tag_len t ≡ 0 → begins_tag t ≡ false
+unfolding begins_tag
+no_tag t echo open_tag = ap (λ v. v || nat_lt 0 (open_tag_len t)) echo ∙ ap (λ n. nat_lt 0 n) open_tag

@@ -66,3 +66,10 @@ search_goes test class text at to wants within fails rises skips =
 -- a search that ends at a place
 pub search_ends : (test : Text → Bool) (text : Text) (at : ℕ) → test (part text at) ≡ true → len_before test (drop at text) ≡ 0
 search_ends test text at holds = len_before_stops test (drop at text) (subst (λ t. test t ≡ true) (take_rest text at) holds)
+
+-- where the test fails at once, some byte stands before the place
+pub len_before_some : (test : Text → Bool) (text : Text) → 0 < length text → test text ≡ false → 0 < len_before test text
+len_before_some test [] some fails = absurd (omega arith)
+len_before_some test (b ∷ text) some fails =
+    let here : len_before test (b ∷ text) ≡ suc (len_before test text) = ap (λ v. cond v 0 (suc (len_before test text))) fails in
+    omega (arith, here)

@@ -12,6 +12,7 @@ pub mod Pieces
 pub mod Punctuators
 pub mod Reading
 pub mod Search
+pub mod Stepping
 pub mod Templates
 pub mod Token
 pub mod Words

@@ -1,5 +1,5 @@
 -- How the code keeps a piece.
-use Rattle.std.specs.Prelude.{◌≡◌, List, ℕ, false, Option, Some, None, Result, Ok, Err}
+use Rattle.std.specs.Prelude.{◌≡◌, ◌<◌, ◌≤◌, length, List, ℕ, false, Option, Some, None, Result, Ok, Err}
 use Rattle.php_lex.specs.declared.fail.LexFail.{LexFail}
 use Rattle.php_lex.specs.declared.pieces.Change.{Change}
 use Rattle.php_lex.specs.declared.pieces.Change.TheVariants as Kept
@@ -33,6 +33,10 @@ change_kept (Kept.Turn mode) = Modes.turn (mode_kept mode)
 abbrev pub piece_kept : Piece → Pieces.Piece
 piece_kept p =
     record { len = p.len; opens_part = p.opens_part; token = draft_kept p.token; ends_part = p.ends_part; change = change_kept p.change }
+
+-- a piece of so many bytes stands at the front of the text
+abbrev pub IsPieceOf : ℕ → Text → Type 0
+IsPieceOf len text = (0 < len) × (len ≤ length text)
 
 -- what a function found, and what it had to find
 abbrev pub Finds : Result Piece LexFail → Pieces.Found → Type 0

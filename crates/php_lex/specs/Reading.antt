@@ -1,7 +1,7 @@
 -- The tokens of a text, or its first fault.
-use Rattle.std.specs.Prelude.{ℕ, zero, suc, ◌+◌, ◌-◌, Bool, true, false, if◌then◌else◌, ◌==◌, List, [], ◌∷◌, ◌++◌, Option, Some, None, Result, Ok, Err, pos}
+use Rattle.std.specs.Prelude.{◌≡◌, ◌⊎◌, ℕ, zero, suc, ◌+◌, ◌-◌, Bool, true, false, if◌then◌else◌, ◌==◌, List, [], ◌∷◌, ◌++◌, Option, Some, None, Result, Ok, Err, pos}
 use Rattle.php_lex.specs.declared.fail.LexFail.{LexFail}
-use Rattle.php_lex.specs.declared.fail.LexFail.TheVariants.{Unclosed}
+use Rattle.php_lex.specs.declared.fail.LexFail.TheVariants.{Unclosed, NoMemory}
 use Rattle.php_lex.specs.declared.kind.TokenKind.TheVariants as Kind
 use Rattle.php_lex.specs.Bytes.{Text}
 use Rattle.php_lex.specs.Modes.{State, start, mode_of, unclosed, changed}
@@ -27,6 +27,11 @@ tokens_of line p =
 abbrev pub line_after : ℕ → ℕ → ℕ
 line_after line b = if b == 10 then line + 1 else line
 
+-- the line of the byte behind these
+abbrev pub lines_after : ℕ → Text → ℕ
+lines_after line [] = line
+lines_after line (b ∷ text) = lines_after (line_after line b) text
+
 abbrev pub at_end : Option ℕ → Result (List Token) LexFail
 at_end None = Ok []
 at_end (Some line) = Err (Unclosed line)
@@ -50,3 +55,8 @@ read_from zero state line (b ∷ text) =
 -- the tokens of a text, or the first fault in it
 unfoldable pub tokens : Text → Result (List Token) LexFail
 tokens text = read_from 0 start 1 text
+
+-- a function answered the tokens of a text or its first fault; want of memory is the one other answer
+abbrev pub Lexes : Result (List Token) LexFail → Result (List Token) LexFail → Type 0
+Lexes (Ok found) read = read ≡ Ok found
+Lexes (Err fault) read = (fault ≡ NoMemory) ⊎ (read ≡ Err fault)

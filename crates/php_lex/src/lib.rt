@@ -7,6 +7,7 @@ mod escapes;
 mod fail;
 mod heredocs;
 mod kind;
+mod lexer;
 mod modes;
 mod numbers;
 mod pieces;
@@ -17,4 +18,5 @@ mod words;
 
 pub use fail::LexFail;
 pub use kind::{Cast, Keyword, Punct, TokenKind};
+pub use lexer::lex;
 pub use tokens::Tokens;

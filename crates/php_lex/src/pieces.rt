@@ -6,10 +6,11 @@ ghost use Rattle.php_lex.specs.Bytes.{is_name_start};
 ghost use Rattle.php_lex.specs.Delimiters.{delimiter_of};
 ghost use Rattle.php_lex.specs.Heredocs.{opening, IsWithin};
 ghost use Rattle.php_lex.specs.Kept.{mode_kept};
-ghost use Rattle.php_lex.specs.PieceKept.{Finds, piece_kept, change_kept, text_kept};
+ghost use Rattle.php_lex.specs.PieceKept.{Finds, IsPieceOf, piece_kept, change_kept, text_kept};
 ghost use Rattle.php_lex.specs.Numbers.{sign_len, int_key, number};
 ghost use Rattle.php_lex.specs.Pieces as spec;
 ghost use Rattle.php_lex.specs.Punctuators.{punctuator};
+ghost use Rattle.php_lex.specs.Templates.{ends as template_ends};
 ghost use Rattle.php_lex.specs.Words.{cast};
 
 use crate::bytes::{Class, byte, is_blank, is_name_start, name_len, newline_len, run};
@@ -66,7 +67,8 @@ type Found<'a> = Result<Piece<'a>, LexFail>;
 
 // No token.
 fn nothing<'a>(len: usize, change: Change<'a>) -> Piece<'a>
-    ensures { piece_kept result ≡ spec.nothing len (change_kept change.entry) }
+    ensures value { piece_kept result ≡ spec.nothing len (change_kept change.entry) }
+    ensures len { result.len ≡ len }
 {
     Piece {
         len,
@@ -79,7 +81,8 @@ fn nothing<'a>(len: usize, change: Change<'a>) -> Piece<'a>
 
 // A token.
 fn one<'a>(kind: TokenKind, len: usize, text: Wording<'a>, change: Change<'a>) -> Piece<'a>
-    ensures { piece_kept result ≡ spec.one kind len (text_kept text.entry) (change_kept change.entry) }
+    ensures value { piece_kept result ≡ spec.one kind len (text_kept text.entry) (change_kept change.entry) }
+    ensures len { result.len ≡ len }
 {
     Piece {
         len,
@@ -91,7 +94,8 @@ fn one<'a>(kind: TokenKind, len: usize, text: Wording<'a>, change: Change<'a>) -
 }
 
 fn integer<'a>(len: usize, int: i64, change: Change<'a>) -> Piece<'a>
-    ensures { piece_kept result ≡ spec.integer len int (change_kept change.entry) }
+    ensures value { piece_kept result ≡ spec.integer len int (change_kept change.entry) }
+    ensures len { result.len ≡ len }
 {
     let text = Wording::Plain(&[]);
     Piece {
@@ -108,7 +112,8 @@ fn integer<'a>(len: usize, int: i64, change: Change<'a>) -> Piece<'a>
 }
 
 fn part_begin<'a>(len: usize, mode: Mode<'a>) -> Piece<'a>
-    ensures { piece_kept result ≡ spec.part_begin len (mode_kept mode.entry) }
+    ensures value { piece_kept result ≡ spec.part_begin len (mode_kept mode.entry) }
+    ensures len { result.len ≡ len }
 {
     Piece {
         len,
@@ -120,7 +125,8 @@ fn part_begin<'a>(len: usize, mode: Mode<'a>) -> Piece<'a>
 }
 
 fn part_end<'a>(len: usize) -> Piece<'a>
-    ensures { piece_kept result ≡ spec.part_end len }
+    ensures value { piece_kept result ≡ spec.part_end len }
+    ensures len { result.len ≡ len }
 {
     Piece {
         len,
@@ -133,7 +139,8 @@ fn part_end<'a>(len: usize) -> Piece<'a>
 
 // A token that ends its part.
 fn last_written<'a>(kind: TokenKind, text: &'a [u8]) -> Piece<'a>
-    ensures { piece_kept result ≡ spec.last_written kind (length text.now) text.now }
+    ensures value { piece_kept result ≡ spec.last_written kind (length text.now) text.now }
+    ensures len { result.len ≡ length text.now }
 {
     Piece {
         len: text.len(),
@@ -152,7 +159,8 @@ fn last_written<'a>(kind: TokenKind, text: &'a [u8]) -> Piece<'a>
 #[tactic(auto, unfolding(crate::specs::Pieces::outside_piece))]
 fn outside_piece<'a>(text: &'a [u8]) -> Found<'a>
     requires { 0 < length text.now }
-    ensures { Finds result (spec.outside_piece text.now) }
+    ensures value { Finds result (spec.outside_piece text.now) }
+    ensures within { IfOk result (λ p. IsPieceOf p.len text.now) }
 {
     if begins_echo(text) {
         let kind = TokenKind::Keyword(Keyword::Echo);
@@ -174,7 +182,8 @@ fn outside_piece<'a>(text: &'a [u8]) -> Found<'a>
 #[tactic(auto, unfolding(crate::specs::Pieces::block_comment))]
 fn block_comment<'a>(line: u32, text: &'a [u8]) -> Found<'a>
     requires { 2 ≤ length text.now }
-    ensures { Finds result (spec.block_comment line text.now) }
+    ensures value { Finds result (spec.block_comment line text.now) }
+    ensures within { IfOk result (λ p. IsPieceOf p.len text.now) }
 {
     let end = block_end(text);
     if end == text.len() {
@@ -187,7 +196,8 @@ fn block_comment<'a>(line: u32, text: &'a [u8]) -> Found<'a>
 #[tactic(auto, unfolding(crate::specs::Pieces::variable))]
 fn variable<'a>(line: u32, text: &'a [u8]) -> Found<'a>
     requires { 0 < length text.now }
-    ensures { Finds result (spec.variable line text.now) }
+    ensures value { Finds result (spec.variable line text.now) }
+    ensures within { IfOk result (λ p. IsPieceOf p.len text.now) }
 {
     let len = name_len(text, 1);
     if len == 0 {
@@ -201,7 +211,8 @@ fn variable<'a>(line: u32, text: &'a [u8]) -> Found<'a>
 #[tactic(auto, unfolding(crate::specs::Pieces::raw))]
 fn raw<'a>(line: u32, text: &'a [u8]) -> Found<'a>
     requires { 0 < length text.now }
-    ensures { Finds result (spec.raw line text.now) }
+    ensures value { Finds result (spec.raw line text.now) }
+    ensures within { IfOk result (λ p. IsPieceOf p.len text.now) }
 {
     let inner = &text[1..];
     let len = raw_len(inner);
@@ -217,7 +228,8 @@ fn raw<'a>(line: u32, text: &'a [u8]) -> Found<'a>
 #[tactic(auto, unfolding(crate::specs::Pieces::quoted))]
 fn quoted<'a>(line: u32, text: &'a [u8]) -> Found<'a>
     requires { 0 < length text.now }
-    ensures { Finds result (spec.quoted line text.now) }
+    ensures value { Finds result (spec.quoted line text.now) }
+    ensures within { IfOk result (λ p. IsPieceOf p.len text.now) }
 {
     let inner = &text[1..];
     let len = text_len(Delimiter::Quote, inner);
@@ -238,8 +250,10 @@ fn quoted<'a>(line: u32, text: &'a [u8]) -> Found<'a>
 // A nowdoc, of whose text so many bytes stand behind its first line.
 #[tactic(auto, unfolding(crate::specs::Pieces::nowdoc))]
 fn nowdoc<'a>(line: u32, label: &'a [u8], text: &'a [u8], start: usize) -> Found<'a>
-    requires { start ≤ length text.now }
-    ensures { Finds result (spec.nowdoc line label.now text.now start) }
+    requires some { 0 < start }
+    requires within { start ≤ length text.now }
+    ensures value { Finds result (spec.nowdoc line label.now text.now start) }
+    ensures within { IfOk result (λ p. IsPieceOf p.len text.now) }
 {
     let body = &text[start..];
     let len = nowdoc_len(label, body);
@@ -254,8 +268,10 @@ fn nowdoc<'a>(line: u32, label: &'a [u8], text: &'a [u8], start: usize) -> Found
 // A heredoc without parts is one piece, and else its first line is.
 #[tactic(auto, unfolding(crate::specs::Pieces::heredoc_piece))]
 fn heredoc<'a>(line: u32, label: &'a [u8], text: &'a [u8], start: usize) -> Found<'a>
-    requires { start ≤ length text.now }
-    ensures { Finds result (spec.heredoc_piece line label.now text.now start) }
+    requires some { 0 < start }
+    requires within { start ≤ length text.now }
+    ensures value { Finds result (spec.heredoc_piece line label.now text.now start) }
+    ensures within { IfOk result (λ p. IsPieceOf p.len text.now) }
 {
     let body = &text[start..];
     let by = Delimiter::Label(label);
@@ -279,7 +295,8 @@ fn heredoc<'a>(line: u32, label: &'a [u8], text: &'a [u8], start: usize) -> Foun
 #[tactic(auto, unfolding(crate::specs::Pieces::labelled_piece))]
 fn labelled<'a>(line: u32, text: &'a [u8], first: FirstLine) -> Found<'a>
     requires { IsWithin text.now first }
-    ensures { Finds result (spec.labelled_piece line text.now first) }
+    ensures value { Finds result (spec.labelled_piece line text.now first) }
+    ensures within { IfOk result (λ p. IsPieceOf p.len text.now) }
 {
     let label = &text[first.start..first.end];
     if is_label_line(label, &text[first.len..]) {
@@ -312,7 +329,8 @@ fn is_part_end(mode: Mode, punct: Punct) -> bool
 }
 
 fn punctuation<'a>(mode: Mode<'a>, line: u32, text: &'a [u8]) -> Found<'a>
-    ensures { Finds result (spec.sign_piece (mode_kept mode.entry) line text.now (punctuator text.now)) }
+    ensures value { Finds result (spec.sign_piece (mode_kept mode.entry) line text.now (punctuator text.now)) }
+    ensures within { IfOk result (λ p. IsPieceOf p.len text.now) }
 {
     let Some((punct, len)) = punctuator(text) else {
         return Err(LexFail::BadByte(line));
@@ -331,7 +349,8 @@ fn punctuation<'a>(mode: Mode<'a>, line: u32, text: &'a [u8]) -> Found<'a>
 
 fn cast_or_sign<'a>(mode: Mode<'a>, line: u32, text: &'a [u8]) -> Found<'a>
     requires { 0 < length text.now }
-    ensures { Finds result (spec.cast_or_sign (mode_kept mode.entry) line text.now (cast text.now)) }
+    ensures value { Finds result (spec.cast_or_sign (mode_kept mode.entry) line text.now (cast text.now)) }
+    ensures within { IfOk result (λ p. IsPieceOf p.len text.now) }
 {
     match cast(text) {
         Some((cast, len)) => {
@@ -343,7 +362,8 @@ fn cast_or_sign<'a>(mode: Mode<'a>, line: u32, text: &'a [u8]) -> Found<'a>
 }
 
 fn heredoc_or_sign<'a>(mode: Mode<'a>, line: u32, text: &'a [u8]) -> Found<'a>
-    ensures { Finds result (spec.heredoc_or_sign (mode_kept mode.entry) line text.now (opening text.now)) }
+    ensures value { Finds result (spec.heredoc_or_sign (mode_kept mode.entry) line text.now (opening text.now)) }
+    ensures within { IfOk result (λ p. IsPieceOf p.len text.now) }
 {
     match opening(text) {
         Some(first) => labelled(line, text, first),
@@ -352,7 +372,9 @@ fn heredoc_or_sign<'a>(mode: Mode<'a>, line: u32, text: &'a [u8]) -> Found<'a>
 }
 
 fn end_tag<'a>(text: &'a [u8]) -> Piece<'a>
-    ensures { piece_kept result ≡ spec.end_tag text.now }
+    requires { 2 ≤ length text.now }
+    ensures value { piece_kept result ≡ spec.end_tag text.now }
+    ensures within { IsPieceOf result.len text.now }
 {
     let kind = TokenKind::Punct(Punct::Semicolon);
     let len = 2 + newline_len(text, 2);
@@ -368,7 +390,8 @@ fn end_tag<'a>(text: &'a [u8]) -> Piece<'a>
 #[tactic(auto, unfolding(crate::specs::Pieces::sign))]
 fn sign<'a>(mode: Mode<'a>, line: u32, text: &'a [u8]) -> Found<'a>
     requires { 0 < length text.now }
-    ensures { Finds result (spec.sign (mode_kept mode.entry) line text.now) }
+    ensures value { Finds result (spec.sign (mode_kept mode.entry) line text.now) }
+    ensures within { IfOk result (λ p. IsPieceOf p.len text.now) }
 {
     let next = byte(text, 1);
     match text[0] {
@@ -385,7 +408,8 @@ fn sign<'a>(mode: Mode<'a>, line: u32, text: &'a [u8]) -> Found<'a>
 
 fn numeral<'a>(line: u32, text: &'a [u8]) -> Found<'a>
     requires { is_ascii_digit (slice_index text.now 0) ≡ true }
-    ensures { Finds result (spec.number_piece line (number text.now)) }
+    ensures value { Finds result (spec.number_piece line (number text.now)) }
+    ensures within { IfOk result (λ p. IsPieceOf p.len text.now) }
 {
     match number(text) {
         Ok((len, n)) => Ok(integer(len, n as i64, Change::Stay)),
@@ -399,7 +423,8 @@ fn numeral<'a>(line: u32, text: &'a [u8]) -> Found<'a>
 #[tactic(auto, unfolding(crate::specs::Pieces::script_piece))]
 fn script_piece<'a>(mode: Mode<'a>, line: u32, text: &'a [u8]) -> Found<'a>
     requires { 0 < length text.now }
-    ensures { Finds result (spec.script_piece (mode_kept mode.entry) line text.now) }
+    ensures value { Finds result (spec.script_piece (mode_kept mode.entry) line text.now) }
+    ensures within { IfOk result (λ p. IsPieceOf p.len text.now) }
 {
     let b = text[0];
     if is_blank(b) {
@@ -436,7 +461,8 @@ fn goes_on(text: &[u8], at: usize) -> bool
 
 fn variable_part<'a>(line: u32, text: &'a [u8]) -> Piece<'a>
     requires { 0 < length text.now }
-    ensures { piece_kept result ≡ spec.variable_part line text.now }
+    ensures value { piece_kept result ≡ spec.variable_part line text.now }
+    ensures within { IsPieceOf result.len text.now }
 {
     let len = 1 + name_len(text, 1);
     let name = Draft {
@@ -466,7 +492,8 @@ fn variable_part<'a>(line: u32, text: &'a [u8]) -> Piece<'a>
 #[tactic(auto, unfolding(crate::specs::Pieces::part_piece))]
 fn part_piece<'a>(begun: u32, line: u32, text: &'a [u8]) -> Found<'a>
     requires { 0 < length text.now }
-    ensures { Finds result (spec.part_piece begun line text.now) }
+    ensures value { Finds result (spec.part_piece begun line text.now) }
+    ensures within { IfOk result (λ p. IsPieceOf p.len text.now) }
 {
     match text[0] {
         b'\\' if is_cut_escape(text) => Err(LexFail::Unclosed(begun)),
@@ -477,11 +504,26 @@ fn part_piece<'a>(begun: u32, line: u32, text: &'a [u8]) -> Found<'a>
     }
 }
 
+// The length of what ends a template at the front.
+#[tactic(auto, unfolding(crate::specs::Templates::ends))]
+fn end_len(by: Delimiter, text: &[u8]) -> usize
+    requires ends { template_ends (delimiter_of by) text.now ≡ true }
+    requires some { 0 < length text.now }
+    ensures value { result ≡ spec.closing (delimiter_of by.entry) text.now }
+    ensures within { IsPieceOf result text.now }
+{
+    match by {
+        Delimiter::Quote => 1,
+        Delimiter::Label(label) => closing_len(label, text),
+    }
+}
+
 /// In a template.
 #[tactic(auto, unfolding(crate::specs::Pieces::template_piece))]
 fn template_piece<'a>(by: Delimiter<'a>, begun: u32, line: u32, text: &'a [u8]) -> Found<'a>
     requires { 0 < length text.now }
-    ensures { Finds result (spec.template_piece (delimiter_of by.entry) begun line text.now) }
+    ensures value { Finds result (spec.template_piece (delimiter_of by.entry) begun line text.now) }
+    ensures within { IfOk result (λ p. IsPieceOf p.len text.now) }
 {
     let len = text_len(by, text);
     if len > 0 {
@@ -491,16 +533,18 @@ fn template_piece<'a>(by: Delimiter<'a>, begun: u32, line: u32, text: &'a [u8]) 
     if !ends(by, text) {
         return part_piece(begun, line, text);
     }
-    let closing = match by {
-        Delimiter::Quote => 1,
-        Delimiter::Label(label) => closing_len(label, text),
-    };
     let nothing = Wording::Plain(&[]);
-    Ok(one(TokenKind::Unquote, closing, nothing, Change::Leave))
+    Ok(one(
+        TokenKind::Unquote,
+        end_len(by, text),
+        nothing,
+        Change::Leave,
+    ))
 }
 
 fn written<'a>(kind: TokenKind, text: &'a [u8], change: Change<'a>) -> Piece<'a>
-    ensures { piece_kept result ≡ spec.written kind (length text.now) text.now (change_kept change.entry) }
+    ensures value { piece_kept result ≡ spec.written kind (length text.now) text.now (change_kept change.entry) }
+    ensures len { result.len ≡ length text.now }
 {
     one(kind, text.len(), Wording::Plain(text), change)
 }
@@ -509,7 +553,8 @@ fn written<'a>(kind: TokenKind, text: &'a [u8], change: Change<'a>) -> Piece<'a>
 #[tactic(auto, unfolding(crate::specs::Pieces::subject_piece))]
 fn subject_piece<'a>(begun: u32, line: u32, text: &'a [u8]) -> Found<'a>
     requires { 0 < length text.now }
-    ensures { Finds result (spec.subject_piece begun line text.now) }
+    ensures value { Finds result (spec.subject_piece begun line text.now) }
+    ensures within { IfOk result (λ p. IsPieceOf p.len text.now) }
 {
     match text[0] {
         b'[' => {
@@ -526,7 +571,8 @@ fn subject_piece<'a>(begun: u32, line: u32, text: &'a [u8]) -> Found<'a>
 
 #[tactic(auto, unfolding(crate::specs::Pieces::member_piece))]
 fn member_piece<'a>(line: u32, text: &'a [u8]) -> Found<'a>
-    ensures { Finds result (spec.member_piece line text.now) }
+    ensures value { Finds result (spec.member_piece line text.now) }
+    ensures within { IfOk result (λ p. IsPieceOf p.len text.now) }
 {
     let len = name_len(text, 0);
     if len == 0 {
@@ -539,7 +585,8 @@ fn member_piece<'a>(line: u32, text: &'a [u8]) -> Found<'a>
 fn number_key<'a>(begun: u32, text: &'a [u8], len: usize) -> Piece<'a>
     requires within { len ≤ length text.now }
     requires signed { sign_len text.now ≤ len }
-    ensures { piece_kept result ≡ spec.number_key begun text.now len (int_key text.now len) }
+    ensures value { piece_kept result ≡ spec.number_key begun text.now len (int_key text.now len) }
+    ensures len { result.len ≡ len }
 {
     let change = Change::Turn(Mode::KeyRead(begun));
     match int_key(text, len) {
@@ -551,7 +598,8 @@ fn number_key<'a>(begun: u32, text: &'a [u8], len: usize) -> Piece<'a>
 #[tactic(auto, unfolding(crate::specs::Pieces::key_piece))]
 fn key_piece<'a>(begun: u32, line: u32, text: &'a [u8]) -> Found<'a>
     requires { 0 < length text.now }
-    ensures { Finds result (spec.key_piece begun line text.now) }
+    ensures value { Finds result (spec.key_piece begun line text.now) }
+    ensures within { IfOk result (λ p. IsPieceOf p.len text.now) }
 {
     let change = Change::Turn(Mode::KeyRead(begun));
     let word = name_len(text, 0);
@@ -574,7 +622,8 @@ fn key_piece<'a>(begun: u32, line: u32, text: &'a [u8]) -> Found<'a>
 #[tactic(auto, unfolding(crate::specs::Pieces::key_end_piece))]
 fn key_end_piece<'a>(line: u32, text: &'a [u8]) -> Found<'a>
     requires { 0 < length text.now }
-    ensures { Finds result (spec.key_end_piece line text.now) }
+    ensures value { Finds result (spec.key_end_piece line text.now) }
+    ensures within { IfOk result (λ p. IsPieceOf p.len text.now) }
 {
     if text[0] == b']' {
         Ok(last_written(TokenKind::Punct(Punct::RightBracket), &text[..1]))
@@ -585,7 +634,8 @@ fn key_end_piece<'a>(line: u32, text: &'a [u8]) -> Found<'a>
 
 #[tactic(auto, unfolding(crate::specs::Pieces::name_piece))]
 fn name_piece<'a>(begun: u32, line: u32, text: &'a [u8]) -> Found<'a>
-    ensures { Finds result (spec.name_piece begun line text.now) }
+    ensures value { Finds result (spec.name_piece begun line text.now) }
+    ensures within { IfOk result (λ p. IsPieceOf p.len text.now) }
 {
     let len = name_len(text, 0);
     if len == 0 {
@@ -603,7 +653,8 @@ fn name_piece<'a>(begun: u32, line: u32, text: &'a [u8]) -> Found<'a>
 #[tactic(auto, unfolding(crate::specs::Pieces::name_end_piece))]
 fn name_end_piece<'a>(begun: u32, line: u32, text: &'a [u8]) -> Found<'a>
     requires { 0 < length text.now }
-    ensures { Finds result (spec.name_end_piece begun line text.now) }
+    ensures value { Finds result (spec.name_end_piece begun line text.now) }
+    ensures within { IfOk result (λ p. IsPieceOf p.len text.now) }
 {
     match text[0] {
         b'}' => Ok(part_end(1)),
@@ -618,7 +669,8 @@ fn name_end_piece<'a>(begun: u32, line: u32, text: &'a [u8]) -> Found<'a>
 #[tactic(auto, unfolding(crate::specs::Pieces::brace_end_piece))]
 fn brace_end_piece<'a>(line: u32, text: &'a [u8]) -> Found<'a>
     requires { 0 < length text.now }
-    ensures { Finds result (spec.brace_end_piece line text.now) }
+    ensures value { Finds result (spec.brace_end_piece line text.now) }
+    ensures within { IfOk result (λ p. IsPieceOf p.len text.now) }
 {
     if text[0] == b'}' {
         Ok(part_end(1))
@@ -630,7 +682,8 @@ fn brace_end_piece<'a>(line: u32, text: &'a [u8]) -> Found<'a>
 /// The piece at the front of a text that begins on that line, or the fault there.
 pub(crate) fn next_piece<'a>(mode: Mode<'a>, line: u32, text: &'a [u8]) -> Found<'a>
     requires { 0 < length text.now }
-    ensures { Finds result (spec.piece (mode_kept mode.entry) line text.now) }
+    ensures value { Finds result (spec.piece (mode_kept mode.entry) line text.now) }
+    ensures within { IfOk result (λ p. IsPieceOf p.len text.now) }
 {
     match mode {
         Mode::Outside => outside_piece(text),
