@@ -1,11 +1,11 @@
 -- Which bytes begin what ends a comment, inline text and text in single quotes.
-use Rattle.std.proofs.Common.{get_or-drop, ◌≡◌, ℕ, zero, suc, ◌+◌, ◌-◌, ◌<◌, ◌≤◌, Bool, true, false, ◌&&◌, ◌||◌, cond, nat_eq, nat_lt, List, [], ◌∷◌, length, drop, take, get_or, refl, sym, ap, ◌∙◌, subst, arith, add-one, zero-add}
+use Rattle.std.proofs.Common.{get_or-drop, ◌≡◌, ℕ, zero, suc, ◌+◌, ◌<◌, ◌≤◌, Bool, true, false, ◌&&◌, ◌||◌, cond, nat_lt, [], ◌∷◌, length, drop, get_or, refl, sym, ap, ◌∙◌, subst, arith, zero-add}
 use Rattle.std.proofs.Math.Seq.{drop-length}
 use Rattle.std.proofs.lemmas.Grind.{common_steps}
 use Rattle.std.proofs.lemmas.List.{drop-drop, length-drop, take_rest}
 use Rattle.std.specs.Prelude.{slice_index, ◌==◌}
 use Rattle.memchr.specs.Find.{Nowhere, Passes, is_byte, is_byte2, is_byte3}
-use Rattle.php_lex.specs.Bytes.{Text, len_before}
+use Rattle.php_lex.specs.Bytes.{Text}
 use Rattle.php_lex.specs.Comments.{ends_comment, ends_block, begins_echo, is_tag_name, is_separated, separator_len, open_tag_len, begins_tag, raw_len}
 use Rattle.php_lex.specs.Search.{Wants}
 use Rattle.php_lex.proofs.RunLemmas.{part}

@@ -1,8 +1,7 @@
 -- What is kept of tokens, and the texts of single quotes.
-use Rattle.std.proofs.Common.{◌≡◌, ℕ, zero, suc, ◌+◌, ◌-◌, ◌<◌, ◌≤◌, Bool, true, false, not, ◌&&◌, ◌||◌, cond, List, [], ◌∷◌, ◌++◌, length, drop, take, map, get_or, refl, sym, ap, ◌∙◌, subst, arith, append_assoc, add-one, append-nil, length-append}
-use Rattle.std.specs.Prelude.{slice_index, slice_range, ◌==◌, All, Option, None, Some, is_some, MatchOption}
+use Rattle.std.proofs.Common.{◌≡◌, ℕ, zero, suc, ◌+◌, ◌-◌, ◌<◌, ◌≤◌, Bool, true, false, not, ◌&&◌, ◌||◌, cond, List, [], ◌∷◌, ◌++◌, length, drop, take, map, get_or, refl, sym, ap, ◌∙◌, subst, arith, append_assoc, append-nil, length-append}
+use Rattle.std.specs.Prelude.{slice_index, slice_range, ◌==◌, Option, None, Some, is_some, MatchOption}
 use Rattle.std.proofs.lemmas.List.Elements.{All-push}
-use Rattle.std.proofs.lemmas.Grind.{common_steps}
 use Rattle.memchr.specs.Find.{Nowhere, Passes, is_byte}
 use Rattle.php_lex.specs.declared.tokens.TokenText.{TokenText}
 use Rattle.php_lex.specs.declared.tokens.TokenText.TheVariants.{Plain, Decoded}

@@ -1,10 +1,10 @@
 -- How the tokens of a text follow piece by piece.
-use Rattle.std.proofs.Common.{◌≡◌, ℕ, zero, suc, ◌+◌, ◌-◌, ◌<◌, ◌≤◌, List, [], ◌∷◌, ◌++◌, length, drop, take, Result, Ok, Err, refl, sym, ap, ◌∙◌, subst, arith, append_assoc, append-nil}
+use Rattle.std.proofs.Common.{◌≡◌, ℕ, zero, suc, ◌+◌, ◌-◌, ◌<◌, ◌≤◌, List, [], ◌∷◌, ◌++◌, length, drop, take, Result, Ok, Err, refl, sym, ap, ◌∙◌, subst, arith, append_assoc}
 use Rattle.std.proofs.lemmas.List.{drop-drop, length-drop, take_rest}
 use Rattle.php_lex.specs.declared.fail.LexFail.{LexFail}
 use Rattle.php_lex.specs.Bytes.{Text}
-use Rattle.php_lex.specs.Modes.{State, start, mode_of, unclosed, changed}
-use Rattle.php_lex.specs.Pieces.{Piece, Found, piece}
+use Rattle.php_lex.specs.Modes.{State, mode_of, unclosed, changed}
+use Rattle.php_lex.specs.Pieces.{Piece, piece}
 use Rattle.php_lex.specs.Reading.{tokens_of, line_after, lines_after, at_end, put_before, go_on, read_from, tokens}
 use Rattle.php_lex.specs.Token.{Token}
 use Rattle.php_lex.proofs.RunLemmas.{part}

@@ -1,5 +1,5 @@
 -- What the tables give.
-use Rattle.std.proofs.Common.{◌≡◌, ℕ, ◌<◌, ◌≤◌, Bool, true, false, ◌&&◌, nat_eq, nat_lt, cond, List, [], ◌∷◌, length, Option, Some, None, refl, sym, ◌∙◌, arith, subst}
+use Rattle.std.proofs.Common.{◌≡◌, ℕ, ◌<◌, ◌≤◌, Bool, true, false, ◌&&◌, nat_eq, nat_lt, cond, List, [], ◌∷◌, length, Option, Some, None, sym, arith, subst}
 use Rattle.std.specs.Prelude.{IfSome}
 use Rattle.std.specs.List.{starts_with}
 use Rattle.std.proofs.lemmas.Grind.{common_steps}

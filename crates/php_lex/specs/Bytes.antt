@@ -1,5 +1,5 @@
 -- Bytes of a text, and runs of bytes of one class. Past the end a text reads as 0.
-use Rattle.std.specs.Prelude.{ℕ, suc, ◌+◌, Bool, true, ◌&&◌, ◌||◌, if◌then◌else◌, ◌==◌, nat_le, List, [], ◌∷◌, drop, slice_index}
+use Rattle.std.specs.Prelude.{ℕ, suc, ◌+◌, Bool, ◌&&◌, ◌||◌, if◌then◌else◌, ◌==◌, nat_le, List, [], ◌∷◌, drop, slice_index}
 use Rattle.std.specs.Char.{is_ascii_alphabetic, is_ascii_digit, is_ascii_hexdigit}
 use Rattle.php_lex.specs.declared.bytes.Class.{Class}
 use Rattle.php_lex.specs.declared.bytes.Class.TheVariants as class

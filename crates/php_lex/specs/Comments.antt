@@ -1,6 +1,5 @@
 -- Comments, tags and text in single quotes.
-use Rattle.std.specs.Prelude.{ℕ, suc, ◌+◌, ◌-◌, Bool, true, false, ◌&&◌, ◌||◌, if◌then◌else◌, ◌==◌, nat_eq, nat_lt, List, [], ◌∷◌, length, take, drop, slice_index, codes}
-use Rattle.std.specs.List.{starts_with}
+use Rattle.std.specs.Prelude.{ℕ, suc, ◌+◌, Bool, true, false, ◌&&◌, ◌||◌, if◌then◌else◌, ◌==◌, nat_lt, [], ◌∷◌, length, take, drop, slice_index, codes}
 use Rattle.std.specs.Str.{str_eq_ignore_ascii_case}
 use Rattle.php_lex.specs.Bytes.{Text, is_blank, newline_len, len_before}
 

@@ -1,5 +1,5 @@
 -- How tokens are kept.
-use Rattle.std.specs.Prelude.{◌≡◌, ℕ, ◌≤◌, List, [], ◌∷◌, ◌++◌, length, map, slice_range, All}
+use Rattle.std.specs.Prelude.{◌≡◌, ℕ, ◌≤◌, List, ◌++◌, length, map, slice_range, All}
 use Rattle.php_lex.specs.declared.tokens.TokenText.{TokenText}
 use Rattle.php_lex.specs.declared.tokens.TokenText.TheVariants.{Plain, Decoded}
 use Rattle.php_lex.specs.declared.tokens.Entry.{Entry}

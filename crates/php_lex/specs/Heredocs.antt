@@ -1,5 +1,5 @@
 -- The first line of a heredoc or a nowdoc.
-use Rattle.std.specs.Prelude.{ℕ, ◌+◌, ◌-◌, ◌<◌, ◌≤◌, length, Bool, true, false, not, ◌&&◌, ◌||◌, if◌then◌else◌, ◌==◌, nat_lt, List, take, drop, slice_index, Option, Some, None}
+use Rattle.std.specs.Prelude.{ℕ, ◌+◌, ◌-◌, ◌<◌, ◌≤◌, length, ◌&&◌, ◌||◌, if◌then◌else◌, ◌==◌, nat_lt, take, drop, slice_index, Option, Some, None}
 use Rattle.php_lex.specs.declared.heredocs.FirstLine.{FirstLine}
 use Rattle.php_lex.specs.Bytes.{Text, is_gap, run, name_len, line_end_len}
 

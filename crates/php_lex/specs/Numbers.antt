@@ -1,5 +1,5 @@
 -- Integer literals.
-use Rattle.std.specs.Prelude.{ℕ, ◌+◌, ◌-◌, ◌*◌, ◌^◌, Bool, true, false, not, ◌&&◌, ◌||◌, if◌then◌else◌, ◌==◌, nat_lt, nat_le, List, [], ◌∷◌, take, drop, slice_index, Option, Some, None, Result, Ok, Err, ℤ, pos, negsuc}
+use Rattle.std.specs.Prelude.{ℕ, ◌+◌, ◌-◌, ◌*◌, Bool, not, ◌&&◌, ◌||◌, if◌then◌else◌, ◌==◌, nat_lt, nat_le, [], ◌∷◌, take, drop, slice_index, Option, Some, None, Result, Ok, Err, ℤ, pos, negsuc}
 use Rattle.std.specs.Char.{is_ascii_digit, is_ascii_hexdigit}
 use Rattle.php_lex.specs.declared.numbers.NumberFault.{NumberFault}
 use Rattle.php_lex.specs.declared.numbers.NumberFault.TheVariants.{Float, TooLarge, NotOctal}

@@ -1,5 +1,5 @@
 -- How the code keeps a piece.
-use Rattle.std.specs.Prelude.{◌≡◌, ◌<◌, ◌≤◌, length, List, ℕ, false, Option, Some, None, Result, Ok, Err}
+use Rattle.std.specs.Prelude.{◌≡◌, ◌<◌, ◌≤◌, length, ℕ, false, Option, Some, None, Result, Ok, Err}
 use Rattle.php_lex.specs.declared.fail.LexFail.{LexFail}
 use Rattle.php_lex.specs.declared.pieces.Change.{Change}
 use Rattle.php_lex.specs.declared.pieces.Change.TheVariants as Kept

@@ -1,5 +1,5 @@
 -- The piece that stands at the front of a text, in each mode: its length, its tokens, and the mode that it leaves.
-use Rattle.std.specs.Prelude.{ℕ, ◌+◌, ◌-◌, Bool, true, false, ◌&&◌, ◌||◌, if◌then◌else◌, ◌==◌, nat_lt, List, [], ◌∷◌, ◌++◌, length, take, drop, slice_index, Option, Some, None, Result, Ok, Err, ℤ, pos, codes}
+use Rattle.std.specs.Prelude.{ℕ, ◌+◌, ◌-◌, Bool, true, false, ◌&&◌, ◌||◌, if◌then◌else◌, ◌==◌, nat_lt, [], length, take, drop, slice_index, Option, Some, None, Result, Ok, Err, ℤ, pos, codes}
 use Rattle.std.specs.Char.{is_ascii_digit}
 use Rattle.php_lex.specs.declared.fail.LexFail.{LexFail}
 use Rattle.php_lex.specs.declared.fail.LexFail.TheVariants as Fail
@@ -19,7 +19,6 @@ use Rattle.php_lex.specs.Modes.{Mode, outside, script, quotes, heredoc, braces, 
 use Rattle.php_lex.specs.Numbers.{number, key_len, int_key}
 use Rattle.php_lex.specs.Punctuators.{punctuator}
 use Rattle.php_lex.specs.Templates.{Delimiter, quote, label, is_label_line, closing_len, closes, nowdoc_len, is_cut_escape, ends, text_len, text_value}
-use Rattle.php_lex.specs.Token.{Token}
 use Rattle.php_lex.specs.Words.{word, word_kind, cast}
 
 -- a token without its line

@@ -1,5 +1,5 @@
 -- Punctuators.
-use Rattle.std.specs.Prelude.{ℕ, Bool, nat_eq, if◌then◌else◌, ◌==◌, List, [], ◌∷◌, length, Option, Some, None, codes}
+use Rattle.std.specs.Prelude.{ℕ, nat_eq, if◌then◌else◌, List, [], ◌∷◌, length, Option, Some, None, codes}
 use Rattle.std.specs.List.{starts_with}
 use Rattle.php_lex.specs.declared.kind.Punct.TheVariants as Punct
 use Rattle.php_lex.specs.declared.kind.Punct.{Punct as PunctType}

@@ -1,5 +1,5 @@
 -- What a step of the lexer did.
-use Rattle.std.specs.Prelude.{◌≡◌, ◌⊎◌, ℕ, List, length, Result, Ok, Err}
+use Rattle.std.specs.Prelude.{◌≡◌, ◌⊎◌, ℕ, Result, Ok, Err}
 use Rattle.php_lex.specs.declared.fail.LexFail.{LexFail}
 use Rattle.php_lex.specs.declared.fail.LexFail.TheVariants.{NoMemory}
 use Rattle.php_lex.specs.declared.tokens.Builder.{Builder}
@@ -7,7 +7,7 @@ use Rattle.php_lex.specs.Bytes.{Text}
 use Rattle.php_lex.specs.Entry.{Adds}
 use Rattle.php_lex.specs.Modes.{State, mode_of, changed}
 use Rattle.php_lex.specs.PieceKept.{IsPieceOf}
-use Rattle.php_lex.specs.Pieces.{Piece, Found, piece}
+use Rattle.php_lex.specs.Pieces.{Piece, piece}
 use Rattle.php_lex.specs.Reading.{tokens_of}
 
 -- so many bytes are this piece, whose tokens were added and whose change was made

@@ -1,10 +1,10 @@
 -- The bytes of double quotes and heredocs, outside their parts.
-use Rattle.std.specs.Prelude.{ℕ, zero, suc, ◌+◌, ◌-◌, ◌*◌, ◌/◌, ◌%◌, min, Bool, true, false, ◌&&◌, ◌||◌, if◌then◌else◌, ◌==◌, nat_eq, nat_lt, nat_le, List, [], ◌∷◌, ◌++◌, length, take, drop, slice_index}
+use Rattle.std.specs.Prelude.{ℕ, zero, suc, ◌+◌, ◌-◌, ◌/◌, ◌%◌, min, Bool, true, false, ◌&&◌, ◌||◌, if◌then◌else◌, ◌==◌, nat_eq, nat_lt, nat_le, [], ◌∷◌, ◌++◌, length, take, drop, slice_index}
 use Rattle.std.specs.Char.{is_ascii_hexdigit}
 use Rattle.std.specs.List.{starts_with}
 use Rattle.php_lex.specs.declared.escapes.Meaning.{Meaning}
 use Rattle.php_lex.specs.declared.escapes.Meaning.TheVariants.{Itself, Byte, Scalar}
-use Rattle.php_lex.specs.Bytes.{Text, is_name_start, is_octal_digit, run, name_len, line_end_len, len_before}
+use Rattle.php_lex.specs.Bytes.{Text, is_name_start, is_octal_digit, run, line_end_len, len_before}
 use Rattle.php_lex.specs.Numbers.{value}
 
 -- what ends a template

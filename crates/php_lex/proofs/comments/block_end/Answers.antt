@@ -1,8 +1,8 @@
-use Rattle.std.proofs.Common.{sym, ◌∙◌, arith, rules}
+use Rattle.std.proofs.Common.{sym, ◌∙◌, arith}
 use Rattle.memchr.specs.Find.{is_byte}
 use Rattle.php_lex.specs.Comments.{ends_block}
 use Rattle.php_lex.proofs.CommentLemmas.{block_wants}
-use Rattle.php_lex.proofs.RunLemmas.{search_begins, search_goes, search_ends}
+use Rattle.php_lex.proofs.RunLemmas.{search_begins, search_goes}
 use Rattle.php_lex.proofs.comments.block_end.Goals as goal
 
 pub loop-end-init : goal.loop-end-init

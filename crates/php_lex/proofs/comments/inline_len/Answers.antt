@@ -1,8 +1,8 @@
-use Rattle.std.proofs.Common.{sym, ◌∙◌, arith, rules}
+use Rattle.std.proofs.Common.{sym, ◌∙◌, arith}
 use Rattle.memchr.specs.Find.{is_byte}
 use Rattle.php_lex.specs.Comments.{begins_tag}
 use Rattle.php_lex.proofs.CommentLemmas.{tag_wants}
-use Rattle.php_lex.proofs.RunLemmas.{search_begins, search_goes, search_ends}
+use Rattle.php_lex.proofs.RunLemmas.{search_begins, search_goes}
 use Rattle.php_lex.proofs.comments.inline_len.Goals as goal
 
 pub loop-end-init : goal.loop-end-init

@@ -1,7 +1,5 @@
-use Rattle.std.proofs.Common.{◌≡◌, ◌<◌, ◌≤◌, ◌+◌, ◌-◌, false, length, drop, get_or, ap, subst, arith, rules}
-use Rattle.php_lex.specs.Comments.{raw_len}
+use Rattle.std.proofs.Common.{◌+◌, arith}
 use Rattle.php_lex.proofs.CommentLemmas.{raw_to, raw_all, raw_closes, raw_goes, raw_ends, raw_backslash}
-use Rattle.php_lex.proofs.RunLemmas.{part}
 use Rattle.php_lex.proofs.comments.raw_len.Goals as goal
 
 pub returns-then-text-end-eq39-clause-value : goal.returns-then-text-end-eq39-clause-value

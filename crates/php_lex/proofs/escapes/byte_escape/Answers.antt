@@ -1,6 +1,5 @@
-use Rattle.std.proofs.Common.{◌≡◌, ℕ, ◌+◌, ◌-◌, ◌%◌, take, drop, Some, ap, sym, ◌∙◌, arith}
+use Rattle.std.proofs.Common.{◌≡◌, ◌+◌, ◌-◌, ◌%◌, take, drop, Some, ap, ◌∙◌, arith}
 use Rattle.std.specs.Prelude.{unwrap_or}
-use Rattle.php_lex.specs.declared.escapes.Meaning.{Meaning}
 use Rattle.php_lex.specs.declared.escapes.Meaning.TheVariants.{Byte}
 use Rattle.php_lex.specs.Numbers.{value, at_most}
 use Rattle.php_lex.proofs.NumberLemmas.{few_digits_at, at_most_some}

@@ -1,4 +1,4 @@
-use Rattle.std.proofs.Common.{◌≡◌, ◌+◌, ◌++◌, drop, sym, ap, ◌∙◌, arith, append_assoc}
+use Rattle.std.proofs.Common.{◌+◌, ◌++◌, drop, sym, ap, ◌∙◌, arith, append_assoc}
 use Rattle.php_lex.specs.Delimiters.{delimiter_of}
 use Rattle.php_lex.specs.Templates.{meant, text_value}
 use Rattle.php_lex.proofs.RunLemmas.{part}

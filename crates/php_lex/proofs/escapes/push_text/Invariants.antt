@@ -1,4 +1,4 @@
-use Rattle.std.proofs.Common.{◌≡◌, ◌+◌, ◌-◌, ◌≤◌, ◌++◌, length, drop}
+use Rattle.std.proofs.Common.{◌≡◌, ◌-◌, ◌≤◌, ◌++◌, length, drop}
 use Rattle.php_lex.specs.Delimiters.{delimiter_of}
 use Rattle.php_lex.specs.Templates.{text_value}
 use Rattle.php_lex.proofs.escapes.push_text.Given as goal

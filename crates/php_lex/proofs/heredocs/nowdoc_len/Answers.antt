@@ -1,4 +1,4 @@
-use Rattle.std.proofs.Common.{sym, ◌∙◌, drop, arith, rules}
+use Rattle.std.proofs.Common.{sym, ◌∙◌, arith}
 use Rattle.memchr.specs.Find.{is_byte3}
 use Rattle.php_lex.specs.Templates.{closes}
 use Rattle.php_lex.proofs.TemplateLemmas.{closes_wants}

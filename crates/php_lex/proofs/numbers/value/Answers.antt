@@ -1,4 +1,4 @@
-use Rattle.std.proofs.Common.{◌≡◌, ◌<◌, ◌*◌, length, drop, sym, subst, arith}
+use Rattle.std.proofs.Common.{◌<◌, ◌*◌, length, drop, sym, subst, arith}
 use Rattle.std.proofs.lemmas.List.{length-drop}
 use Rattle.php_lex.specs.Numbers.{value}
 use Rattle.php_lex.proofs.NumberLemmas.{value_over, at_most_none}

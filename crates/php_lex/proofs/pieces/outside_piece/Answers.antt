@@ -1,4 +1,4 @@
-use Rattle.std.proofs.Common.{◌≡◌, ◌<◌, false, sym, ◌∙◌, arith}
+use Rattle.std.proofs.Common.{◌≡◌, false, sym, ◌∙◌, arith}
 use Rattle.php_lex.specs.Comments.{begins_tag}
 use Rattle.php_lex.proofs.CommentLemmas.{no_tag}
 use Rattle.php_lex.proofs.RunLemmas.{len_before_some}

@@ -1,6 +1,5 @@
-use Rattle.std.proofs.Common.{subst, sym, refl}
-use Rattle.std.specs.Prelude.{IfSome, ◌<◌}
-use Rattle.php_lex.specs.Punctuators.{punctuators, punctuator, first_in}
+use Rattle.std.proofs.Common.{refl}
+use Rattle.php_lex.specs.Punctuators.{punctuators, punctuator}
 use Rattle.php_lex.proofs.TableLemmas.{first_in_nonempty}
 use Rattle.php_lex.proofs.punctuators.punctuator.Goals as goal
 

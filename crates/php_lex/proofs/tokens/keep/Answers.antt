@@ -1,4 +1,4 @@
-use Rattle.std.proofs.Common.{◌≡◌, sym, ap, ◌∙◌}
+use Rattle.std.proofs.Common.{sym, ap, ◌∙◌}
 use Rattle.php_lex.specs.declared.tokens.TokenText.TheVariants.{Plain}
 use Rattle.php_lex.specs.PieceKept.{text_kept}
 use Rattle.php_lex.proofs.KeepLemmas.{kept_plain, raw_value_same, none_found}

@@ -1,4 +1,4 @@
-use Rattle.std.proofs.Common.{◌≡◌, length, sym, subst, ap, ◌∙◌, arith}
+use Rattle.std.proofs.Common.{◌≡◌, length, subst, arith}
 use Rattle.php_lex.specs.declared.tokens.TokenText.TheVariants.{Decoded}
 use Rattle.php_lex.specs.Entry.{Keeps}
 use Rattle.php_lex.specs.PieceKept.{text_kept}

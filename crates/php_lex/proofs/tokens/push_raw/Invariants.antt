@@ -1,4 +1,4 @@
-use Rattle.std.proofs.Common.{◌≡◌, ◌+◌, ◌-◌, ◌≤◌, ◌++◌, false, length, drop}
+use Rattle.std.proofs.Common.{◌≡◌, ◌-◌, ◌≤◌, ◌++◌, false, length, drop}
 use Rattle.php_lex.specs.Comments.{raw_value}
 use Rattle.php_lex.proofs.tokens.push_raw.Given as goal
 
