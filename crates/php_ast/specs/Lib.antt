@@ -1,1 +1,5 @@
 pub mod Expression
+pub mod Symbol
+pub mod Operators
+pub mod Tree
+pub mod Spelling

@@ -74,7 +74,7 @@ pub struct ClassDecl {
     pub parent: Option<Name>,
     /// Behind `implements`; none where that word is absent.
     pub interfaces: Items<Name>,
-    pub members: Items<Member>,
+    pub members: Items<ClassMember>,
 }
 
 /// An interface.
@@ -85,7 +85,7 @@ pub struct InterfaceDecl {
     pub name: Name,
     /// Behind `extends`; none where that word is absent.
     pub parents: Items<Name>,
-    pub members: Items<Member>,
+    pub members: Items<ClassMember>,
 }
 
 /// A trait.
@@ -94,12 +94,12 @@ pub struct TraitDecl {
     /// Of `trait`.
     pub spot: Spot,
     pub name: Name,
-    pub members: Items<Member>,
+    pub members: Items<ClassMember>,
 }
 
 /// A member of a class, an interface or a trait.
 #[derive(Drop)]
-pub enum Member {
+pub enum ClassMember {
     /// `use T, ..;` and `use T, .. { rules }`
     Use(Spot, Items<Name>, Option<Items<Rule>>),
     /// Constants.

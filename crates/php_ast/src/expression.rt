@@ -19,8 +19,8 @@ pub enum Expr {
     Str(Spot, Text),
     /// A bare name: of a constant, or of a function or a class that suffixes follow.
     Name(Name),
-    /// `static`, as a class before `::` or behind `instanceof`.
-    Static(Spot),
+    /// `static :: name`
+    StaticMember(Spot, Member),
     /// A text with parts.
     Template(Spot, Items<Piece<Expr>>),
     /// An expression in parentheses.
@@ -40,7 +40,7 @@ pub enum Expr {
     ExitWith(Spot, Boxed<Expr>),
     /// `__LINE__` and its kin.
     Magic(Spot, Magic),
-    /// An operand with its suffixes, one or more.
+    /// An operand with its suffixes, one or more. The operand is none of `new`.
     Chain(Boxed<Expr>, Items<Suffix<Expr>>),
     /// `new` without arguments
     New(Spot, Class<Expr>),
@@ -54,8 +54,10 @@ pub enum Expr {
     Run(Boxed<Expr>, Items<Link<Expr>>),
     /// An operator whose power groups from the right or not at all.
     Binary(Binary, Boxed<Expr>, Boxed<Expr>),
-    /// `left instanceof class`
+    /// `left instanceof class`. The class is an operand that is no call.
     InstanceOf(Boxed<Expr>, Boxed<Expr>),
+    /// `left instanceof static`
+    InstanceOfStatic(Boxed<Expr>, Spot),
     /// `target = value`, and the operators with `=`
     Assign(Assign, Boxed<Expr>, Boxed<Expr>),
     /// `target = & source`
@@ -111,11 +113,18 @@ pub enum Suffix<E> {
     /// `-> name`
     Property(Named<E>),
     /// `:: name`
-    Member(Word),
-    /// `:: $name`
-    StaticVariable(Name),
+    Member(Member),
     /// `(arguments)`
     Call(Items<Argument<E>>),
+}
+
+/// The name behind `::`.
+#[derive(Drop)]
+pub enum Member {
+    /// `name`
+    Word(Word),
+    /// `$name`
+    Variable(Name),
 }
 
 /// The name behind `->`.

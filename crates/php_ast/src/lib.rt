@@ -11,11 +11,11 @@ mod spot;
 mod statement;
 
 pub use declaration::{
-    BaseType, ClassConstant, ClassDecl, ClassModifier, FunctionDecl, InterfaceDecl, Member, Method,
+    BaseType, ClassConstant, ClassDecl, ClassModifier, FunctionDecl, InterfaceDecl, ClassMember, Method,
     Modifier, ModifierWord, Param, Rule, Signature, TraitDecl, Type, Visibility,
 };
 pub use expression::{
-    Argument, Class, ClassStep, Expr, Item, Link, Named, Piece, Suffix,
+    Argument, Class, ClassStep, Expr, Item, Link, Member, Named, Piece, Suffix,
 };
 pub use operator::{ArrayForm, Assign, Binary, Count, Magic, Prefix};
 pub use script::{Script, ScriptItem};
