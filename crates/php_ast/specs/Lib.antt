@@ -3,3 +3,5 @@ pub mod Symbol
 pub mod Operators
 pub mod Tree
 pub mod Spelling
+pub mod View
+pub mod Power
