@@ -5,3 +5,6 @@ pub mod Tree
 pub mod Spelling
 pub mod View
 pub mod Power
+pub mod Proper
+pub mod Nesting
+pub mod Placed
