@@ -8,3 +8,5 @@ pub mod Power
 pub mod Proper
 pub mod Nesting
 pub mod Placed
+pub mod Sign
+pub mod Machine

@@ -17,13 +17,17 @@ free = 50
 abbrev pub top : ℕ
 top = 200
 
--- How much an operand is open to the right: a `new` takes no suffix, and the form with `++` or `--`
--- behind it takes no suffix and no assignment.
-abbrev pub closed_new : ℕ
-closed_new = 80
+-- How much a form without operators at its end is open to the right. Parentheses directly behind `exit` are
+-- its own and no arguments, a `new` takes no suffix, and the form with `++` or `--` behind it takes
+-- neither a suffix nor an assignment.
+abbrev pub open_exit : ℕ
+open_exit = 105
 
-abbrev pub closed_count : ℕ
-closed_count = 50
+abbrev pub open_new : ℕ
+open_new = 80
+
+abbrev pub open_count : ℕ
+open_count = 50
 
 -- ---- powers
 
@@ -73,9 +77,10 @@ ends (assign setting l r) = min (edge assign_row) (ends r)
 ends (yield_nothing spot) = 1
 ends (yield_value spot v) = min yield_power (ends v)
 ends (yield_pair spot k v) = min yield_power (ends v)
-ends (counted e count) = closed_count
-ends (new spot class) = closed_new
-ends (new_with spot class items) = closed_new
+ends (counted e count) = open_count
+ends (new spot class) = open_new
+ends (new_with spot class items) = open_new
+ends (exit spot) = open_exit
 ends _ = top
 
 -- ---- what stands at the end of a tree
@@ -109,18 +114,16 @@ ends_bare _ = false
 abbrev pub IsOperand : {S : Type 0} → Tree S → Type 0
 IsOperand e = free < power e
 
--- an operand that may have suffixes
+-- an operand that may have suffixes, and one that may have arguments
 abbrev pub HasSuffix : {S : Type 0} → Tree S → Type 0
-HasSuffix e = closed_new < ends e
+HasSuffix e = open_new < ends e
+
+abbrev pub IsCallable : {S : Type 0} → Tree S → Type 0
+IsCallable e = open_exit < ends e
 
 abbrev pub is_call : {S : Type 0} → Tree S → Bool
 is_call (call f items) = true
 is_call _ = false
-
--- parentheses directly behind `exit` are its own
-abbrev pub is_exit : {S : Type 0} → Tree S → Bool
-is_exit (exit spot) = true
-is_exit _ = false
 
 abbrev pub IsWord : {S : Type 0} → Member S → Type 0
 IsWord (held spot text) = ⊥
@@ -144,9 +147,9 @@ AreArrayItems (and items _ e) = AreArrayItems items
 AreArrayItems (skip items) = AreArrayItems items
 
 -- a missing item that stands alone is no item
-abbrev pub IsAloneMissing : {S : Type 0} → Items S → Bool
-IsAloneMissing (skip none) = true
-IsAloneMissing _ = false
+abbrev pub is_alone_missing : {S : Type 0} → Items S → Bool
+is_alone_missing (skip none) = true
+is_alone_missing _ = false
 
 -- values alone
 abbrev pub AreValues : {S : Type 0} → Items S → Type 0
@@ -160,7 +163,7 @@ is_none none = true
 is_none _ = false
 
 abbrev pub FitsListing : {S : Type 0} → Listing → Items S → Type 0
-FitsListing (array form) items = AreArrayItems items × (IsAloneMissing items ≡ false)
+FitsListing (array form) items = AreArrayItems items × (is_alone_missing items ≡ false)
 FitsListing isset items = AreValues items × (is_none items ≡ false)
 
 -- ---- the rules of powers
@@ -189,7 +192,7 @@ abbrev mutual
   Proper (index e key) = HasSuffix e × Proper e × Proper key
   Proper (selected e arrow member) = HasSuffix e × Proper e
   Proper (computed e key) = HasSuffix e × Proper e × (ends_bare key ≡ false) × Proper key
-  Proper (call f items) = HasSuffix f × (is_exit f ≡ false) × Proper f × AreArguments items × AreProperItems items
+  Proper (call f items) = IsCallable f × Proper f × AreArguments items × AreProperItems items
   Proper (new spot class) = IsProperClass class
   Proper (new_with spot class items) = IsProperClass class × AreArguments items × AreProperItems items
   Proper (prefix spot op e) = (prefix_power op < power e) × Proper e
