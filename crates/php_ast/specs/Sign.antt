@@ -21,6 +21,7 @@ use Rattle.php_ast.specs.Symbol.{Symbol, keyword, punct, cast}
 use Rattle.php_ast.specs.Tree as tree
 use Rattle.php_ast.specs.Tree.{Leaf, Enclosure, parentheses, emptiness, Listing, array, isset, Arrow, thin, colons, Member, named, reserved, held}
 use Rattle.php_ast.specs.Power.{binary_row, choice_row, instance_row}
+use Rattle.php_ast.specs.Proper.{free}
 
 -- ---- at the beginning of an expression
 
@@ -186,13 +187,14 @@ next (punct p) = next_punct p
 next symbol.end_part = closes part_end
 next _ = other
 
--- How tightly a symbol draws what stands before it; what ends an expression draws nothing.
+-- How tightly a symbol draws what stands before it: an operator with its power, the others in the order in
+-- which operands are open to them. What ends an expression draws nothing.
 abbrev pub draw_weight : Draw → ℕ
 draw_weight (goes op) = (binary_row op).power
 draw_weight checks = instance_row.power
 draw_weight asks = choice_row.power
-draw_weight (sets op) = 60
-draw_weight (counts c) = 60
+draw_weight (sets op) = free
+draw_weight (counts c) = free
 draw_weight indexes = 100
 draw_weight (selects arrow) = 100
 draw_weight calls = 110
