@@ -1,2 +1,5 @@
 mod Examples
 mod Signs
+mod Sound
+mod Fill
+mod Settle
