@@ -3,3 +3,4 @@ mod Signs
 mod Sound
 mod Fill
 mod Settle
+mod Soundness

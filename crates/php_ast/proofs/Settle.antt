@@ -1,6 +1,7 @@
 -- The forms that a symbol ends.
 use Rattle.std.proofs.Common.{◌≡◌, ◌≤◌, ◌<◌, ◌⊎◌, inl, inr, ℕ, suc, Bool, true, false, min, List, [], ◌∷◌, refl, sym, ◌∙◌, ap, subst, arith, ltb-true, ltb-false}
 use Rattle.std.specs.Prelude.{nat_lt}
+use Rattle.std.proofs.lemmas.Bool.{lt-ltb, le-ltb}
 use Rattle.php_ast.specs.Symbol.{Symbol}
 use Rattle.php_ast.specs.Tree.{prefix, counted, binary, instance, static_instance, choice, short_choice, assign, yield_nothing, yield_value, yield_pair}
 use Rattle.php_ast.specs.Spelling.{spell}
@@ -94,3 +95,13 @@ settled_if true arrow n f s e is h below =
 pub settled : (arrow : Bool) (n : ℕ) (s : Stack) (e : Form) → Fits e s → IsSettled arrow n s e (settle arrow n s e)
 settled arrow n [] e h = record { fits = h; low = omega arith; no_arrow = λ a t. t; bare_is = refl; same = λ w. refl }
 settled arrow n (f ∷ s) e h = settled_if (nat_lt n (ends_at arrow f)) arrow n f s e refl h (settled arrow n s (filled f e))
+
+-- a symbol that draws tightly enough ends no form
+pub settle_none : (arrow : Bool) (n : ℕ) (s : Stack) (e : Form) → ends_top arrow s ≤ n → settle arrow n s e ≡ record { tree = e; stack = s }
+settle_none arrow n [] e h = refl
+settle_none arrow n (f ∷ s) e h =
+    ap (λ b. pick b (settle arrow n s (filled f e)) (record { tree = e; stack = f ∷ s })) (le-ltb n (ends_at arrow f) h)
+
+pub top_level : (s : Stack) → ends_top false s ≤ level s
+top_level [] = omega arith
+top_level (f ∷ s) = omega arith
