@@ -4,3 +4,5 @@ mod Sound
 mod Fill
 mod Settle
 mod Soundness
+mod Trees
+mod Steps

@@ -16,7 +16,7 @@ use Rattle.php_ast.specs.Spelling.{spell, spell_items, spell_class, comma, list_
 use Rattle.php_ast.specs.Power.{binary_row, choice_row, instance_row}
 use Rattle.php_ast.specs.Proper.{free, top, power, ends, takes_arrow, ends_bare, is_call, is_none, IsOperand, AreArguments, AreArrayItems, AreProperItems, AreProperSteps, Proper, IsWord, IsKey, IsProperClass, IsProperLead, is_alone_missing}
 use Rattle.php_ast.specs.Sign.{First, is_leaf, is_static, is_quote, is_exit, is_new, is_yield, encloses, lists, operates, nothing, first, Draw, goes, checks, asks, sets, counts, calls, indexes, selects, Closer, paren, bracket, brace, comma as closing_comma, double_arrow, colon, semicolon, part_end, Next, draws, closes, other, next, draw_weight, weight_of, weight, is_arrow, ends_yield, word_of, member_of, Mark, refers, spreads, ends_item, begins, item_mark, is_ampersand, is_paren, is_right_paren, is_right_bracket, is_left_brace, is_colon}
-use Rattle.php_ast.specs.Machine.{Nothing, Form, Holder, of_call, of_new, of_list, Frame, in_enclosed, in_items, in_index, in_computed, in_step, in_part, in_then, in_else, in_short, in_prefix, in_binary, in_instance, in_assign, in_yield, in_yield_value, Stack, Mode, need, have, have_call, due_enclosed, due_listed, at_items, at_value, at_exit, at_exit_paren, at_static, at_static_colons, at_template, at_index, at_arrow, at_new, at_class, at_step, at_question, at_assign, at_yield, operand_level, level, any, any_symbol, any_member, closed_with, has_paren, holder_closing, is_array, is_arguments, may_end, ended_items, plug, lacks, holder_front, front_at, front, Due, pick, provided, settle, after, assigning, opened, is_plain, keys, closed, closes_in, drawn, goes_on, started, start, ended_by, item_step, static_alone, static_step, template_step, with_member, arrow_step, new_step, class_step, step, Outcome, stop_whole, stop_short, stop_static, is_last, stop_yield, stop, onward, run}
+use Rattle.php_ast.specs.Machine.{Nothing, Form, Holder, of_call, of_new, of_list, Frame, in_enclosed, in_items, in_index, in_computed, in_step, in_part, in_then, in_else, in_short, in_prefix, in_binary, in_instance, in_assign, in_yield, in_yield_value, Stack, Mode, need, have, have_call, due_enclosed, due_listed, at_items, at_value, at_exit, at_exit_paren, at_static, at_static_colons, at_template, at_index, at_arrow, at_new, at_class, at_step, at_question, at_assign, at_yield, operand_level, level, any, any_symbol, any_member, closed_with, has_paren, holder_closing, is_array, is_arguments, may_end, ended_items, plug, lacks, holder_front, front_at, front, Due, pick, provided, settle, after_by, after, assigning, opened, is_plain, keys, closed, closes_in, drawn, goes_on, started, start, ended_by, item_step, static_alone, static_step, template_step, with_member, arrow_step, new_step, class_step, step, Outcome, stop_whole, stop_short, stop_static, is_last, stop_yield, stop, onward, run}
 use Rattle.php_ast.proofs.Signs.{draw_symbol, closer_symbol, enclosure_word, listing_word, Says, next_says, FirstSays, first_says, MarkSays, item_says, MemberSays, member_says, WordSays, word_says, TestSays, ampersand_says, paren_says, right_paren_says, right_bracket_says, left_brace_says, colon_says}
 use Rattle.php_ast.proofs.Sound.{SoundHolder, SoundList, SoundEnd, SoundLead, SoundItems, SoundAt, Sound, Seats, Fits, Closed, IsGood, written}
 use Rattle.php_ast.proofs.Fill.{prefix_small, edge_small, binary_small, level_small, level_top, level_free, list_more, list_end, closed_proper, closed_power, closed_closed, closed_spells, seats_by, plugged_spells, plugged_proper, plugged_bare}
@@ -54,25 +54,23 @@ test_is false t x h e = cc
 closed_fits : (s : Stack) (e : Form) → Proper e → power e ≡ top → is_call e ≡ false → Sound s → Fits e s
 closed_fits s e p is c sound = record { proper = p; near = omega (arith, is, level_top s); sound = sound; seats = seats_by s e c }
 
-after_if : (b : Bool) (l : Form) (s : Stack) (e : Form) → is_call e ≡ b → Proper e → power e ≡ top → Sound (in_instance l ∷ s) → Closed e
-    → IsGood (pick b (have_call e (in_instance l ∷ s)) (have e (in_instance l ∷ s)))
-after_if true l s e is p q sound c = (is, p, sound, c)
-after_if false l s e is p q sound c = (record { proper = p; near = omega (arith, q); sound = sound; seats = is }, c)
+after_if : (b : Bool) (s : Stack) (e : Form) → is_call e ≡ b → Proper e → power e ≡ top → Sound s → Closed e → IsGood (after_by b e s)
+after_if true [] e is p q sound c = (record { proper = p; near = omega arith; sound = sound; seats = tt }, c)
+after_if true (in_instance l ∷ s) e is p q sound c = (is, p, sound, c)
+after_if true (f ∷ s) e is p q sound c = (record { proper = p; near = omega (arith, q, level_top (f ∷ s)); sound = sound; seats = tt }, c)
+after_if false s e is p q sound c = (closed_fits s e p q is sound, c)
 
 after_good : (s : Stack) (e : Form) → Proper e → power e ≡ top → Sound s → Closed e → IsGood (after e s)
-after_good [] e p q sound c = (record { proper = p; near = omega arith; sound = sound; seats = tt }, c)
-after_good (in_instance l ∷ s) e p q sound c = after_if (is_call e) l s e refl p q sound c
-after_good (f ∷ s) e p q sound c = (record { proper = p; near = omega (arith, q, level_top (f ∷ s)); sound = sound; seats = tt }, c)
+after_good s e p q sound c = after_if (is_call e) s e refl p q sound c
 
-after_written_if : (b : Bool) (l : Form) (s : Stack) (e : Form) (w : List Symbol)
-    → written (pick b (have_call e (in_instance l ∷ s)) (have e (in_instance l ∷ s))) w ≡ front (in_instance l ∷ s) (spell e w)
-after_written_if true l s e w = refl
-after_written_if false l s e w = refl
+after_written_if : (b : Bool) (s : Stack) (e : Form) (w : List Symbol) → written (after_by b e s) w ≡ front s (spell e w)
+after_written_if true [] e w = refl
+after_written_if true (in_instance l ∷ s) e w = refl
+after_written_if true (f ∷ s) e w = refl
+after_written_if false s e w = refl
 
 after_written : (s : Stack) (e : Form) (w : List Symbol) → written (after e s) w ≡ front s (spell e w)
-after_written [] e w = refl
-after_written (in_instance l ∷ s) e w = after_written_if (is_call e) l s e w
-after_written (f ∷ s) e w = refl
+after_written s e w = after_written_if (is_call e) s e w
 
 operand_by_ends : (e : Form) → free < ends e → IsOperand e
 operand_by_ends (prefix spot op e) h = absurd (omega (arith, prefix_small op))

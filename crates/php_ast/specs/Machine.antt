@@ -263,9 +263,12 @@ settle arrow n (f ∷ s) e =
     pick (nat_lt n (ends_at arrow f)) (settle arrow n s (filled f e)) (record { tree = e; stack = f ∷ s })
 
 -- what a closed form leads to
+abbrev pub after_by : Bool → Form → Stack → Mode
+after_by true e (in_instance l ∷ s) = have_call e (in_instance l ∷ s)
+after_by _ e s = have e s
+
 abbrev pub after : Form → Stack → Mode
-after e (in_instance l ∷ s) = pick (is_call e) (have_call e (in_instance l ∷ s)) (have e (in_instance l ∷ s))
-after e s = have e s
+after e s = after_by (is_call e) e s
 
 abbrev pub assigning : Assign → Form → Stack → Mode
 assigning setting.Plain e s = at_assign e s
