@@ -6,3 +6,4 @@ mod Settle
 mod Soundness
 mod Trees
 mod Steps
+mod ReadBack
