@@ -123,7 +123,7 @@ yielded_in_parentheses = refl
 
 -- `new $c->d[1](2)`
 new_of_steps : read (keyword word.New ∷ sv 99 ∷ punct mark.Arrow ∷ symbol.name (100 ∷ []) ∷ punct mark.LeftBracket ∷ si 1 ∷ punct mark.RightBracket
-      ∷ punct mark.LeftParen ∷ si 2 ∷ punct mark.RightParen ∷ [])
+    ∷ punct mark.LeftParen ∷ si 2 ∷ punct mark.RightParen ∷ [])
     ≡ whole (new_with tt (class_found (step_index (step_property (from tt (99 ∷ [])) (named tt (100 ∷ []))) (i 1))) (and none plain (i 2)))
 new_of_steps = refl
 
@@ -138,17 +138,17 @@ new_stops = refl
 
 -- `"x$b[0]{$c}"`
 text_with_parts : read (symbol.quote ∷ symbol.piece (120 ∷ []) ∷ symbol.part ∷ sv 98 ∷ punct mark.LeftBracket ∷ si 0 ∷ punct mark.RightBracket ∷ symbol.end_part
-      ∷ symbol.part ∷ sv 99 ∷ symbol.end_part ∷ symbol.unquote ∷ [])
+    ∷ symbol.part ∷ sv 99 ∷ symbol.end_part ∷ symbol.unquote ∷ [])
     ≡ whole (template tt (value (value (bytes no_piece (120 ∷ [])) (index (v 98) (i 0))) (v 99)))
 text_with_parts = refl
 
 -- `$x instanceof f()` stops behind the call, and lacks a suffix there
 class_by_call : read (sv 120 ∷ keyword word.InstanceOf ∷ sf ∷ punct mark.LeftParen ∷ punct mark.RightParen ∷ punct mark.Semicolon ∷ [])
     ≡ record {
-        tree = instance (v 120) (append (call f none));
-        lacked = punct mark.LeftBracket ∷ punct mark.RightBracket ∷ [];
-        left = punct mark.Semicolon ∷ [];
-      }
+      tree = instance (v 120) (append (call f none));
+      lacked = punct mark.LeftBracket ∷ punct mark.RightBracket ∷ [];
+      left = punct mark.Semicolon ∷ [];
+    }
 class_by_call = refl
 
 -- `[1, , 2 => $a, ]`
@@ -159,10 +159,10 @@ array_with_holes = refl
 -- `f(1, 2 ? 3` begins an expression; it lacks `: $x)`
 call_cut_off : read (sf ∷ punct mark.LeftParen ∷ si 1 ∷ punct mark.Comma ∷ si 2 ∷ punct mark.Question ∷ si 3 ∷ [])
     ≡ record {
-        tree = call f (and (and none plain (i 1)) plain (choice (i 2) (i 3) any));
-        lacked = punct mark.Colon ∷ any_symbol ∷ punct mark.RightParen ∷ [];
-        left = [];
-      }
+      tree = call f (and (and none plain (i 1)) plain (choice (i 2) (i 3) any));
+      lacked = punct mark.Colon ∷ any_symbol ∷ punct mark.RightParen ∷ [];
+      left = [];
+    }
 call_cut_off = refl
 
 -- ---- nesting

@@ -245,7 +245,7 @@ seat_if false f s e is p near sound = record { proper = p; near = near; sound = 
 pub seated_fits : (f : Frame) (s : Stack) (e : Form) → Fits e (f ∷ s) → MayEndBare f e → Fits (seated (is_call_at f) s (filled f e)) s
 seated_fits f s e h b =
     seat_if (is_call_at f) f s e refl (filled_proper f s e h.sound.0 h.near h.proper h.seats b)
-      (subst (λ n. level s ≤ n) (sym (filled_power f e)) h.sound.1) h.sound.2
+    (subst (λ n. level s ≤ n) (sym (filled_power f e)) h.sound.1) h.sound.2
 
 seated_spells : (b : Bool) (s : Stack) (x : Form) (w : List Symbol) → spell (seated b s x) w ≡ spell x (seat_end b s w)
 seated_spells false s x w = refl
@@ -263,7 +263,7 @@ pub plugged_spells : (s : Stack) (e : Form) → spell (plug s e) [] ≡ front s 
 plugged_spells [] e = refl
 plugged_spells (f ∷ s) e =
     plugged_spells s (seated (is_call_at f) s (filled f e))
-      ∙ ap (front s) (seated_spells (is_call_at f) s (filled f e) (lacks s) ∙ filled_spells f e (seat_end (is_call_at f) s (lacks s)))
+    ∙ ap (front s) (seated_spells (is_call_at f) s (filled f e) (lacks s) ∙ filled_spells f e (seat_end (is_call_at f) s (lacks s)))
 
 pub plugged_proper : (s : Stack) (e : Form) → Fits e s → ends_bare e ≡ false → Proper (plug s e)
 plugged_proper [] e h b = h.proper
@@ -284,9 +284,9 @@ lacks_none (in_short c) w h = (omega arith, h)
 lacks_none (in_prefix op) w h = (omega arith, h)
 lacks_none (in_binary op l) w h = (omega (arith, right_some op), h)
   where
-  right_some : (op : Binary) → 0 < right (binary_row op)
-  right_some binary_op.Power = omega arith
-  right_some _ = omega arith
+    right_some : (op : Binary) → 0 < right (binary_row op)
+    right_some binary_op.Power = omega arith
+    right_some _ = omega arith
 lacks_none (in_instance l) w h = (omega arith, h)
 lacks_none (in_assign how l) w h = (omega arith, h)
 lacks_none in_yield w h = (omega arith, h)
@@ -298,7 +298,7 @@ plugged_bare (f ∷ s) e h b =
     let q = lacks_none f (seat_end (is_call_at f) s (lacks s)) b in
     let calls : is_call_at f ≡ false = endless_call f q.0 in
     plugged_bare s (seated (is_call_at f) s (filled f e)) (seated_fits f s e h (inl q.0))
-      (ap (λ c. seat_end c s (lacks s)) (sym calls) ∙ q.1)
+    (ap (λ c. seat_end c s (lacks s)) (sym calls) ∙ q.1)
 
 pub edge_small : (op : Binary) → (edge (binary_row op) ≤ 40) × (edge (binary_row op) ≤ suc (binary_row op).power) × (0 < edge (binary_row op)) × (edge (binary_row op) ≤ right (binary_row op))
 edge_small binary_op.Power = (omega arith, omega arith, omega arith, omega arith)

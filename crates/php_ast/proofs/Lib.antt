@@ -7,3 +7,5 @@ mod Soundness
 mod Trees
 mod Steps
 mod ReadBack
+mod Appended
+mod LawProofs

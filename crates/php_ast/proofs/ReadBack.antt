@@ -39,12 +39,12 @@ pub record Follows (e : Form) (s : Stack) (w : List Symbol) : Type 0 where
   pub arrow : is_arrow (head_next w) ≡ true → takes_arrow e ≡ false
   pub bare : ends_bare e ≡ true → StandsBare e s w
 
-draw_some : (d : Draw) → 2 ≤ draw_weight d
+pub draw_some : (d : Draw) → 2 ≤ draw_weight d
 draw_some (goes op) = some_power op
   where
-  some_power : (op : Binary) → 2 ≤ (binary_row op).power
-  some_power binary_op.Power = omega arith
-  some_power _ = omega arith
+    some_power : (op : Binary) → 2 ≤ (binary_row op).power
+    some_power binary_op.Power = omega arith
+    some_power _ = omega arith
 draw_some checks = omega arith
 draw_some asks = omega arith
 draw_some (sets op) = omega arith
@@ -79,8 +79,9 @@ bare_inside : (f : Frame) (s : Stack) (e : Form) (w : List Symbol) → 0 < level
 bare_inside f s e w on short h = record {
   ends_it = h.ends_it;
   goes = elim h.goes [
-    inl shut ↦ inl (lacks_in f s on ∙ shut)
-    | inr going ↦ inr (subst IsGoing (sym (ended_step f s e (head_next w) short)) going) ];
+    | inl shut ↦ inl (lacks_in f s on ∙ shut)
+    | inr going ↦ inr (subst IsGoing (sym (ended_step f s e (head_next w) short)) going)
+  ];
 }
 
 -- what may follow a form may follow the tree at its end
@@ -132,13 +133,13 @@ bare_done : (s : Stack) (w : List Symbol) → StandsBare (yield_nothing tt) s w 
 bare_done s [] h = let e : false ≡ true = h.ends_it in cc
 bare_done s (t ∷ w) h =
     ap (λ b. onward (pick b (goes_on (yield_nothing tt) s (next t)) (start (in_yield ∷ s) t)) (λ n. run n w) (stop_yield (is_last (t ∷ w) (lacks s)) s (t ∷ w))) h.ends_it
-      ∙ bare_by s t w (goes_on (yield_nothing tt) s (next t)) (lacks s) h.ends_it h.goes
+    ∙ bare_by s t w (goes_on (yield_nothing tt) s (next t)) (lacks s) h.ends_it h.goes
   where
-  bare_by : (s : Stack) (t : Symbol) (w : List Symbol) (o : Option Mode) (v : List Symbol) → ends_yield (next t) ≡ true → (v ≡ []) ⊎ IsGoing o
-      → onward o (λ n. run n w) (stop_yield (is_last (t ∷ w) v) s (t ∷ w)) ≡ onward o (λ n. run n w) (stop_whole (yield_nothing tt) s (t ∷ w))
-  bare_by s t w (Some n) v is g = refl
-  bare_by s t w None [] is g = ap (λ b. stop_yield b s (t ∷ w)) is
-  bare_by s t w None (x ∷ v) is g = elim g [ inl shut ↦ cc | inr going ↦ absurd going ]
+    bare_by : (s : Stack) (t : Symbol) (w : List Symbol) (o : Option Mode) (v : List Symbol) → ends_yield (next t) ≡ true → (v ≡ []) ⊎ IsGoing o
+        → onward o (λ n. run n w) (stop_yield (is_last (t ∷ w) v) s (t ∷ w)) ≡ onward o (λ n. run n w) (stop_whole (yield_nothing tt) s (t ∷ w))
+    bare_by s t w (Some n) v is g = refl
+    bare_by s t w None [] is g = ap (λ b. stop_yield b s (t ∷ w)) is
+    bare_by s t w None (x ∷ v) is g = elim g [ inl shut ↦ cc | inr going ↦ absurd going ]
 
 -- ---- what follows a tree between brackets
 
@@ -279,14 +280,14 @@ mutual
   read_back (template spot pieces) s w p near h = pieces_back pieces s (symbol.unquote ∷ w) p
   read_back (enclosed spot parentheses e) s w p near h =
       read_back e (in_enclosed parentheses ∷ s) (punct mark.RightParen ∷ w) p (omega arith) (follows_paren (in_enclosed parentheses) s e w tt)
-        ∙ ap (λ m. run m (punct mark.RightParen ∷ w)) (after_low e (in_enclosed parentheses ∷ s) (omega arith))
+      ∙ ap (λ m. run m (punct mark.RightParen ∷ w)) (after_low e (in_enclosed parentheses ∷ s) (omega arith))
   read_back (enclosed spot emptiness e) s w p near h =
       read_back e (in_enclosed emptiness ∷ s) (punct mark.RightParen ∷ w) p (omega arith) (follows_paren (in_enclosed emptiness) s e w tt)
-        ∙ ap (λ m. run m (punct mark.RightParen ∷ w)) (after_low e (in_enclosed emptiness ∷ s) (omega arith))
+      ∙ ap (λ m. run m (punct mark.RightParen ∷ w)) (after_low e (in_enclosed emptiness ∷ s) (omega arith))
   read_back (enclosed spot exiting e) s w p near h =
       enter_exit s (spell e (punct mark.RightParen ∷ w)) (starts e (punct mark.RightParen ∷ w))
-        ∙ read_back e (in_enclosed exiting ∷ s) (punct mark.RightParen ∷ w) p (omega arith) (follows_paren (in_enclosed exiting) s e w tt)
-        ∙ ap (λ m. run m (punct mark.RightParen ∷ w)) (after_low e (in_enclosed exiting ∷ s) (omega arith))
+      ∙ read_back e (in_enclosed exiting ∷ s) (punct mark.RightParen ∷ w) p (omega arith) (follows_paren (in_enclosed exiting) s e w tt)
+      ∙ ap (λ m. run m (punct mark.RightParen ∷ w)) (after_low e (in_enclosed exiting ∷ s) (omega arith))
   read_back (listed spot (array form.Brackets) items) s w p near h = list_back (of_list (array form.Brackets)) items s w p.0.0 p.0 p.1
   read_back (listed spot (array form.Array) items) s w p near h = list_back (of_list (array form.Array)) items s w p.0.0 p.0 p.1
   read_back (listed spot (array form.List) items) s w p near h = list_back (of_list (array form.List)) items s w p.0.0 p.0 p.1
@@ -296,130 +297,130 @@ mutual
   read_back (static_member spot m) s w p near h = static_on m s w
   read_back (append e) s w p near h =
       read_back e s (punct mark.LeftBracket ∷ punct mark.RightBracket ∷ w) p.1 (operand_near e s (omega arith)) (follows_draw indexes e s (punct mark.RightBracket ∷ w) (suffix_low e p.0))
-        ∙ suffix_on indexes e s (punct mark.RightBracket ∷ w) (omega arith) (suffix_low e p.0)
+      ∙ suffix_on indexes e s (punct mark.RightBracket ∷ w) (omega arith) (suffix_low e p.0)
   read_back (index e key) s w p near h =
       read_back e s (punct mark.LeftBracket ∷ spell key (punct mark.RightBracket ∷ w)) p.1 (operand_near e s (omega arith))
-          (follows_draw indexes e s (spell key (punct mark.RightBracket ∷ w)) (suffix_low e p.0))
-        ∙ suffix_on indexes e s (spell key (punct mark.RightBracket ∷ w)) (omega arith) (suffix_low e p.0)
-        ∙ enter_index e s (spell key (punct mark.RightBracket ∷ w)) (starts key (punct mark.RightBracket ∷ w))
-        ∙ read_back key (in_index e ∷ s) (punct mark.RightBracket ∷ w) p.2 (omega arith) (follows_bracket (in_index e) s key w tt)
-        ∙ ap (λ m. run m (punct mark.RightBracket ∷ w)) (after_low key (in_index e ∷ s) (omega arith))
+      (follows_draw indexes e s (spell key (punct mark.RightBracket ∷ w)) (suffix_low e p.0))
+      ∙ suffix_on indexes e s (spell key (punct mark.RightBracket ∷ w)) (omega arith) (suffix_low e p.0)
+      ∙ enter_index e s (spell key (punct mark.RightBracket ∷ w)) (starts key (punct mark.RightBracket ∷ w))
+      ∙ read_back key (in_index e ∷ s) (punct mark.RightBracket ∷ w) p.2 (omega arith) (follows_bracket (in_index e) s key w tt)
+      ∙ ap (λ m. run m (punct mark.RightBracket ∷ w)) (after_low key (in_index e ∷ s) (omega arith))
   read_back (selected e arrow m) s w p near h =
       read_back e s (draw_symbol (selects arrow) ∷ member_symbol m ∷ w) p.1 (operand_near e s (omega arith)) (follows_draw (selects arrow) e s (member_symbol m ∷ w) (suffix_low e p.0))
-        ∙ suffix_on (selects arrow) e s (member_symbol m ∷ w) (omega arith) (suffix_low e p.0)
-        ∙ member_on arrow m e s w
+      ∙ suffix_on (selects arrow) e s (member_symbol m ∷ w) (omega arith) (suffix_low e p.0)
+      ∙ member_on arrow m e s w
   read_back (computed e key) s w p near h =
       read_back e s (punct mark.Arrow ∷ punct mark.LeftBrace ∷ spell key (punct mark.RightBrace ∷ w)) p.1 (operand_near e s (omega arith))
-          (follows_draw (selects thin) e s (punct mark.LeftBrace ∷ spell key (punct mark.RightBrace ∷ w)) (suffix_low e p.0))
-        ∙ suffix_on (selects thin) e s (punct mark.LeftBrace ∷ spell key (punct mark.RightBrace ∷ w)) (omega arith) (suffix_low e p.0)
-        ∙ read_back key (in_computed e ∷ s) (punct mark.RightBrace ∷ w) p.3 (omega arith) (follows_shut (punct mark.RightBrace) (in_computed e ∷ s) key w refl (λ a. cc) p.2)
-        ∙ ap (λ m. run m (punct mark.RightBrace ∷ w)) (after_low key (in_computed e ∷ s) (omega arith))
+      (follows_draw (selects thin) e s (punct mark.LeftBrace ∷ spell key (punct mark.RightBrace ∷ w)) (suffix_low e p.0))
+      ∙ suffix_on (selects thin) e s (punct mark.LeftBrace ∷ spell key (punct mark.RightBrace ∷ w)) (omega arith) (suffix_low e p.0)
+      ∙ read_back key (in_computed e ∷ s) (punct mark.RightBrace ∷ w) p.3 (omega arith) (follows_shut (punct mark.RightBrace) (in_computed e ∷ s) key w refl (λ a. cc) p.2)
+      ∙ ap (λ m. run m (punct mark.RightBrace ∷ w)) (after_low key (in_computed e ∷ s) (omega arith))
   read_back (call f items) s w p near h =
       read_back f s (punct mark.LeftParen ∷ spell_items items (punct mark.RightParen ∷ w)) p.1 (operand_near f s (omega arith))
-          (follows_draw calls f s (spell_items items (punct mark.RightParen ∷ w)) (call_low f p.0))
-        ∙ suffix_on calls f s (spell_items items (punct mark.RightParen ∷ w)) (omega arith) (call_low f p.0)
-        ∙ list_back (of_call f) items s w p.2 p.2 p.3
+      (follows_draw calls f s (spell_items items (punct mark.RightParen ∷ w)) (call_low f p.0))
+      ∙ suffix_on calls f s (spell_items items (punct mark.RightParen ∷ w)) (omega arith) (call_low f p.0)
+      ∙ list_back (of_call f) items s w p.2 p.2 p.3
   read_back (new spot class) s w p near h = class_back class s w p ∙ class_done class s w h.low
   read_back (new_with spot class items) s w p near h =
       class_back class s (punct mark.LeftParen ∷ spell_items items (punct mark.RightParen ∷ w)) p.0
-        ∙ class_called class s (spell_items items (punct mark.RightParen ∷ w))
-        ∙ list_back (of_new class) items s w p.1 p.1 p.2
+      ∙ class_called class s (spell_items items (punct mark.RightParen ∷ w))
+      ∙ list_back (of_new class) items s w p.1 p.1 p.2
   read_back (prefix spot op e) s w p near h =
       let low : head_weight w < ends e = omega (arith, h.low) in
       let short : head_weight w < ends_at (is_arrow (head_next w)) (in_prefix op) = omega (arith, h.low, ends_at_level (is_arrow (head_next w)) (in_prefix op) refl) in
       prefix_on op s (spell e w) near
-        ∙ read_back e (in_prefix op ∷ s) w p.1 p.0 (inside (in_prefix op) s e w (omega arith) short low h.arrow (λ b. b) h)
-        ∙ close_by (in_prefix op) s e w (omega arith) (omega (arith, prefix_small op)) short
+      ∙ read_back e (in_prefix op ∷ s) w p.1 p.0 (inside (in_prefix op) s e w (omega arith) short low h.arrow (λ b. b) h)
+      ∙ close_by (in_prefix op) s e w (omega arith) (omega (arith, prefix_small op)) short
   read_back (counted e count) s w p near h =
       read_back e s (draw_symbol (counts count) ∷ w) p.1 (operand_near e s (operand_ends e p.0)) (follows_draw (counts count) e s w (operand_ends e p.0))
-        ∙ operator_on (counts count) e s w (omega arith) near (operand_ends e p.0)
+      ∙ operator_on (counts count) e s w (omega arith) near (operand_ends e p.0)
   read_back (binary op l r) s w p near h =
       let low : head_weight w < ends r = omega (arith, h.low) in
       let short : head_weight w < ends_at (is_arrow (head_next w)) (in_binary op l) =
-          omega (arith, h.low, edge_small op, ends_at_level (is_arrow (head_next w)) (in_binary op l) refl) in
+      omega (arith, h.low, edge_small op, ends_at_level (is_arrow (head_next w)) (in_binary op l) refl) in
       read_back l s (draw_symbol (goes op) ∷ spell r w) p.2 (omega (arith, left_power l (binary_row op).power (binary_small op).0 p.0))
-          (follows_draw (goes op) l s (spell r w) p.0)
-        ∙ operator_on (goes op) l s (spell r w) (operator_small op) near p.0
-        ∙ read_back r (in_binary op l ∷ s) w p.3 p.1 (inside (in_binary op l) s r w (omega (arith, edge_small op)) short low h.arrow (λ b. b) h)
-        ∙ close_by (in_binary op l) s r w (omega (arith, edge_small op)) (omega (arith, binary_small op)) short
+      (follows_draw (goes op) l s (spell r w) p.0)
+      ∙ operator_on (goes op) l s (spell r w) (operator_small op) near p.0
+      ∙ read_back r (in_binary op l ∷ s) w p.3 p.1 (inside (in_binary op l) s r w (omega (arith, edge_small op)) short low h.arrow (λ b. b) h)
+      ∙ close_by (in_binary op l) s r w (omega (arith, edge_small op)) (omega (arith, binary_small op)) short
   read_back (instance l r) s w p near h =
       let opened : IsOpen r = open_by_ends r (operand_ends r p.1) in
       let low : head_weight w < ends r = omega (arith, h.low, opened.ends_is) in
       let short : head_weight w < ends_at (is_arrow (head_next w)) (in_instance l) =
-          omega (arith, h.low, ends_at_level (is_arrow (head_next w)) (in_instance l) refl) in
+      omega (arith, h.low, ends_at_level (is_arrow (head_next w)) (in_instance l) refl) in
       read_back l s (draw_symbol checks ∷ spell r w) p.3 (omega (arith, left_power l instance_row.power (omega arith) p.0)) (follows_draw checks l s (spell r w) p.0)
-        ∙ operator_on checks l s (spell r w) (omega arith) near p.0
-        ∙ read_back r (in_instance l ∷ s) w p.4 (omega (arith, opened.power_is)) (record { low = low; arrow = λ a. opened.no_arrow; bare = λ b. let e : ends_bare r ≡ false = opened.not_bare in cc })
-        ∙ ap (λ b. run (after_by b r (in_instance l ∷ s)) w) p.2
-        ∙ ended (in_instance l) s r w (omega arith) short
+      ∙ operator_on checks l s (spell r w) (omega arith) near p.0
+      ∙ read_back r (in_instance l ∷ s) w p.4 (omega (arith, opened.power_is)) (record { low = low; arrow = λ a. opened.no_arrow; bare = λ b. let e : ends_bare r ≡ false = opened.not_bare in cc })
+      ∙ ap (λ b. run (after_by b r (in_instance l ∷ s)) w) p.2
+      ∙ ended (in_instance l) s r w (omega arith) short
   read_back (static_instance l spot) s w p near h =
       read_back l s (draw_symbol checks ∷ keyword word.Static ∷ w) p.1 (omega (arith, left_power l instance_row.power (omega arith) p.0)) (follows_draw checks l s (keyword word.Static ∷ w) p.0)
-        ∙ operator_on checks l s (keyword word.Static ∷ w) (omega arith) near p.0
-        ∙ static_done l s w (omega (arith, h.low))
+      ∙ operator_on checks l s (keyword word.Static ∷ w) (omega arith) near p.0
+      ∙ static_done l s w (omega (arith, h.low))
   read_back (choice c a b) s w p near h =
       let low : head_weight w < ends b = omega (arith, h.low) in
       let short : head_weight w < ends_at (is_arrow (head_next w)) (in_else c a) = omega (arith, h.low, ends_at_level (is_arrow (head_next w)) (in_else c a) refl) in
       read_back c s (punct mark.Question ∷ spell a (punct mark.Colon ∷ spell b w)) p.3 (omega (arith, left_power c choice_row.power (omega arith) p.0))
-          (follows_draw asks c s (spell a (punct mark.Colon ∷ spell b w)) p.0)
-        ∙ operator_on asks c s (spell a (punct mark.Colon ∷ spell b w)) (omega arith) near p.0
-        ∙ enter_then c s (spell a (punct mark.Colon ∷ spell b w)) (starts a (punct mark.Colon ∷ spell b w))
-        ∙ read_back a (in_then c ∷ s) (punct mark.Colon ∷ spell b w) p.4 (omega arith) (follows_shut (punct mark.Colon) (in_then c ∷ s) a (spell b w) refl (λ x. cc) p.1)
-        ∙ ap (λ m. run m (punct mark.Colon ∷ spell b w)) (after_low a (in_then c ∷ s) (omega arith))
-        ∙ read_back b (in_else c a ∷ s) w p.5 p.2 (inside (in_else c a) s b w (omega arith) short low h.arrow (λ x. x) h)
-        ∙ close_by (in_else c a) s b w (omega arith) (omega arith) short
+      (follows_draw asks c s (spell a (punct mark.Colon ∷ spell b w)) p.0)
+      ∙ operator_on asks c s (spell a (punct mark.Colon ∷ spell b w)) (omega arith) near p.0
+      ∙ enter_then c s (spell a (punct mark.Colon ∷ spell b w)) (starts a (punct mark.Colon ∷ spell b w))
+      ∙ read_back a (in_then c ∷ s) (punct mark.Colon ∷ spell b w) p.4 (omega arith) (follows_shut (punct mark.Colon) (in_then c ∷ s) a (spell b w) refl (λ x. cc) p.1)
+      ∙ ap (λ m. run m (punct mark.Colon ∷ spell b w)) (after_low a (in_then c ∷ s) (omega arith))
+      ∙ read_back b (in_else c a ∷ s) w p.5 p.2 (inside (in_else c a) s b w (omega arith) short low h.arrow (λ x. x) h)
+      ∙ close_by (in_else c a) s b w (omega arith) (omega arith) short
   read_back (short_choice c b) s w p near h =
       let low : head_weight w < ends b = omega (arith, h.low) in
       let short : head_weight w < ends_at (is_arrow (head_next w)) (in_short c) = omega (arith, h.low, ends_at_level (is_arrow (head_next w)) (in_short c) refl) in
       read_back c s (punct mark.Question ∷ punct mark.Colon ∷ spell b w) p.2 (omega (arith, left_power c choice_row.power (omega arith) p.0))
-          (follows_draw asks c s (punct mark.Colon ∷ spell b w) p.0)
-        ∙ operator_on asks c s (punct mark.Colon ∷ spell b w) (omega arith) near p.0
-        ∙ read_back b (in_short c ∷ s) w p.3 p.1 (inside (in_short c) s b w (omega arith) short low h.arrow (λ x. x) h)
-        ∙ close_by (in_short c) s b w (omega arith) (omega arith) short
+      (follows_draw asks c s (punct mark.Colon ∷ spell b w) p.0)
+      ∙ operator_on asks c s (punct mark.Colon ∷ spell b w) (omega arith) near p.0
+      ∙ read_back b (in_short c ∷ s) w p.3 p.1 (inside (in_short c) s b w (omega arith) short low h.arrow (λ x. x) h)
+      ∙ close_by (in_short c) s b w (omega arith) (omega arith) short
   read_back (assign (by_value op) l r) s w p near h =
       let low : head_weight w < ends r = omega (arith, h.low) in
       let short : head_weight w < ends_at (is_arrow (head_next w)) (in_assign (by_value op) l) =
-          omega (arith, h.low, ends_at_level (is_arrow (head_next w)) (in_assign (by_value op) l) refl) in
+      omega (arith, h.low, ends_at_level (is_arrow (head_next w)) (in_assign (by_value op) l) refl) in
       read_back l s (draw_symbol (sets op) ∷ spell r w) p.2 (operand_near l s (operand_ends l p.0)) (follows_draw (sets op) l s (spell r w) (operand_ends l p.0))
-        ∙ operator_on (sets op) l s (spell r w) (omega arith) near (operand_ends l p.0)
-        ∙ assigned_on op l s (spell r w) (starts r w)
-        ∙ read_back r (in_assign (by_value op) l ∷ s) w p.3 p.1 (inside (in_assign (by_value op) l) s r w (omega arith) short low h.arrow (λ x. x) h)
-        ∙ close_by (in_assign (by_value op) l) s r w (omega arith) (omega arith) short
+      ∙ operator_on (sets op) l s (spell r w) (omega arith) near (operand_ends l p.0)
+      ∙ assigned_on op l s (spell r w) (starts r w)
+      ∙ read_back r (in_assign (by_value op) l ∷ s) w p.3 p.1 (inside (in_assign (by_value op) l) s r w (omega arith) short low h.arrow (λ x. x) h)
+      ∙ close_by (in_assign (by_value op) l) s r w (omega arith) (omega arith) short
   read_back (assign by_reference l r) s w p near h =
       let low : head_weight w < ends r = omega (arith, h.low) in
       let short : head_weight w < ends_at (is_arrow (head_next w)) (in_assign by_reference l) =
-          omega (arith, h.low, ends_at_level (is_arrow (head_next w)) (in_assign by_reference l) refl) in
+      omega (arith, h.low, ends_at_level (is_arrow (head_next w)) (in_assign by_reference l) refl) in
       read_back l s (draw_symbol (sets setting.Plain) ∷ punct mark.Ampersand ∷ spell r w) p.2 (operand_near l s (operand_ends l p.0))
-          (follows_draw (sets setting.Plain) l s (punct mark.Ampersand ∷ spell r w) (operand_ends l p.0))
-        ∙ operator_on (sets setting.Plain) l s (punct mark.Ampersand ∷ spell r w) (omega arith) near (operand_ends l p.0)
-        ∙ read_back r (in_assign by_reference l ∷ s) w p.3 p.1 (inside (in_assign by_reference l) s r w (omega arith) short low h.arrow (λ x. x) h)
-        ∙ close_by (in_assign by_reference l) s r w (omega arith) (omega arith) short
+      (follows_draw (sets setting.Plain) l s (punct mark.Ampersand ∷ spell r w) (operand_ends l p.0))
+      ∙ operator_on (sets setting.Plain) l s (punct mark.Ampersand ∷ spell r w) (omega arith) near (operand_ends l p.0)
+      ∙ read_back r (in_assign by_reference l ∷ s) w p.3 p.1 (inside (in_assign by_reference l) s r w (omega arith) short low h.arrow (λ x. x) h)
+      ∙ close_by (in_assign by_reference l) s r w (omega arith) (omega arith) short
   read_back (yield_nothing spot) s w p near h = yield_on s w near ∙ bare_done s w (h.bare refl)
   read_back (yield_value spot v) s w p near h =
       let arrow : is_arrow (head_next w) ≡ false = not_true (is_arrow (head_next w)) h.arrow in
       let low : head_weight w < ends v = omega (arith, h.low) in
       let short : head_weight w < ends_at (is_arrow (head_next w)) in_yield = subst (λ b. head_weight w < ends_at b in_yield) (sym arrow) (omega (arith, h.low)) in
       yield_on s (spell v w) near ∙ enter_yield s (spell v w) (starts v w)
-        ∙ read_back v (in_yield ∷ s) w p.1 p.0 (inside in_yield s v w (omega arith) short low (λ a. cc) (λ x. x) h)
-        ∙ close_by in_yield s v w (omega arith) (omega arith) short
+      ∙ read_back v (in_yield ∷ s) w p.1 p.0 (inside in_yield s v w (omega arith) short low (λ a. cc) (λ x. x) h)
+      ∙ close_by in_yield s v w (omega arith) (omega arith) short
   read_back (yield_pair spot k v) s w p near h =
       let low : head_weight w < ends v = omega (arith, h.low) in
       let short : head_weight w < ends_at (is_arrow (head_next w)) (in_yield_value k) = omega (arith, h.low, ends_at_level (is_arrow (head_next w)) (in_yield_value k) refl) in
       yield_on s (spell k (punct mark.DoubleArrow ∷ spell v w)) near
-        ∙ enter_yield s (spell k (punct mark.DoubleArrow ∷ spell v w)) (starts k (punct mark.DoubleArrow ∷ spell v w))
-        ∙ read_back k (in_yield ∷ s) (punct mark.DoubleArrow ∷ spell v w) p.3 p.0 (follows_shut (punct mark.DoubleArrow) (in_yield ∷ s) k (spell v w) refl (λ a. p.1.0) p.1.1)
-        ∙ ap (λ m. run m (punct mark.DoubleArrow ∷ spell v w)) (after_low k (in_yield ∷ s) (omega arith))
-        ∙ read_back v (in_yield_value k ∷ s) w p.4 p.2 (inside (in_yield_value k) s v w (omega arith) short low h.arrow (λ x. x) h)
-        ∙ close_by (in_yield_value k) s v w (omega arith) (omega arith) short
+      ∙ enter_yield s (spell k (punct mark.DoubleArrow ∷ spell v w)) (starts k (punct mark.DoubleArrow ∷ spell v w))
+      ∙ read_back k (in_yield ∷ s) (punct mark.DoubleArrow ∷ spell v w) p.3 p.0 (follows_shut (punct mark.DoubleArrow) (in_yield ∷ s) k (spell v w) refl (λ a. p.1.0) p.1.1)
+      ∙ ap (λ m. run m (punct mark.DoubleArrow ∷ spell v w)) (after_low k (in_yield ∷ s) (omega arith))
+      ∙ read_back v (in_yield_value k ∷ s) w p.4 p.2 (inside (in_yield_value k) s v w (omega arith) short low h.arrow (λ x. x) h)
+      ∙ close_by (in_yield_value k) s v w (omega arith) (omega arith) short
 
   pub list_back : (h : Holder) (items : Items Nothing) (s : Stack) (w : List Symbol) → SoundList h items → SoundEnd h items → AreProperItems items
       → run (at_items h none s) (spell_items items (holder_closing h ∷ w)) ≡ run (after (closed_with h items) s) w
   list_back h none s w l end p = none_closed h s w end
   list_back h (and items lead e) s w l end p =
       items_back h items s (spell_lead lead (spell e (holder_closing h ∷ w))) (list_lead h items lead e l).0 p.0
-        ∙ lead_back h items lead s (spell e (holder_closing h ∷ w)) (list_lead h items lead e l).1 p.1 (starts e (holder_closing h ∷ w))
-        ∙ read_back e (in_items h items lead ∷ s) (holder_closing h ∷ w) p.2 (omega arith) (follows_close h items lead s e w)
-        ∙ ap (λ m. run m (holder_closing h ∷ w)) (after_low e (in_items h items lead ∷ s) (omega arith))
-        ∙ item_closed h items lead e s w
+      ∙ lead_back h items lead s (spell e (holder_closing h ∷ w)) (list_lead h items lead e l).1 p.1 (starts e (holder_closing h ∷ w))
+      ∙ read_back e (in_items h items lead ∷ s) (holder_closing h ∷ w) p.2 (omega arith) (follows_close h items lead s e w)
+      ∙ ap (λ m. run m (holder_closing h ∷ w)) (after_low e (in_items h items lead ∷ s) (omega arith))
+      ∙ item_closed h items lead e s w
   list_back h (skip items) s w l end p =
       items_back h items s (holder_closing h ∷ w) (list_skip h items l).1 p ∙ skip_closed h items s w l end
 
@@ -428,9 +429,9 @@ mutual
   items_back h none s w l p = refl
   items_back h (and items lead e) s w l p =
       items_back h items s (spell_lead lead (spell e (punct mark.Comma ∷ w))) (list_lead h items lead e l).0 p.0
-        ∙ lead_back h items lead s (spell e (punct mark.Comma ∷ w)) (list_lead h items lead e l).1 p.1 (starts e (punct mark.Comma ∷ w))
-        ∙ read_back e (in_items h items lead ∷ s) (punct mark.Comma ∷ w) p.2 (omega arith) (follows_comma h items lead s e w)
-        ∙ ap (λ m. run m (punct mark.Comma ∷ w)) (after_low e (in_items h items lead ∷ s) (omega arith))
+      ∙ lead_back h items lead s (spell e (punct mark.Comma ∷ w)) (list_lead h items lead e l).1 p.1 (starts e (punct mark.Comma ∷ w))
+      ∙ read_back e (in_items h items lead ∷ s) (punct mark.Comma ∷ w) p.2 (omega arith) (follows_comma h items lead s e w)
+      ∙ ap (λ m. run m (punct mark.Comma ∷ w)) (after_low e (in_items h items lead ∷ s) (omega arith))
   items_back h (skip items) s w l p =
       items_back h items s (punct mark.Comma ∷ w) (list_skip h items l).1 p ∙ skip_on h items s w (list_skip h items l).0
 
@@ -441,24 +442,24 @@ mutual
   lead_back h items spread s v l p g = spread_on h items s v l
   lead_back h items (keyed k) s v l p g =
       enter_items h items s (spell k (punct mark.DoubleArrow ∷ v)) (starts k (punct mark.DoubleArrow ∷ v))
-        ∙ read_back k (in_items h items plain ∷ s) (punct mark.DoubleArrow ∷ v) p.1 (omega arith) (follows_shut (punct mark.DoubleArrow) (in_items h items plain ∷ s) k v refl (λ a. p.0.0) p.0.1)
-        ∙ ap (λ m. run m (punct mark.DoubleArrow ∷ v)) (after_low k (in_items h items plain ∷ s) (omega arith))
-        ∙ key_on h items k s v (keyed_array h k (inl l))
-        ∙ enter_value h items k s v g
+      ∙ read_back k (in_items h items plain ∷ s) (punct mark.DoubleArrow ∷ v) p.1 (omega arith) (follows_shut (punct mark.DoubleArrow) (in_items h items plain ∷ s) k v refl (λ a. p.0.0) p.0.1)
+      ∙ ap (λ m. run m (punct mark.DoubleArrow ∷ v)) (after_low k (in_items h items plain ∷ s) (omega arith))
+      ∙ key_on h items k s v (keyed_array h k (inl l))
+      ∙ enter_value h items k s v g
   lead_back h items (keyed_reference k) s v l p g =
       enter_items h items s (spell k (punct mark.DoubleArrow ∷ punct mark.Ampersand ∷ v)) (starts k (punct mark.DoubleArrow ∷ punct mark.Ampersand ∷ v))
-        ∙ read_back k (in_items h items plain ∷ s) (punct mark.DoubleArrow ∷ punct mark.Ampersand ∷ v) p.1 (omega arith)
-            (follows_shut (punct mark.DoubleArrow) (in_items h items plain ∷ s) k (punct mark.Ampersand ∷ v) refl (λ a. p.0.0) p.0.1)
-        ∙ ap (λ m. run m (punct mark.DoubleArrow ∷ punct mark.Ampersand ∷ v)) (after_low k (in_items h items plain ∷ s) (omega arith))
-        ∙ key_on h items k s (punct mark.Ampersand ∷ v) (keyed_array h k (inr l))
+      ∙ read_back k (in_items h items plain ∷ s) (punct mark.DoubleArrow ∷ punct mark.Ampersand ∷ v) p.1 (omega arith)
+      (follows_shut (punct mark.DoubleArrow) (in_items h items plain ∷ s) k (punct mark.Ampersand ∷ v) refl (λ a. p.0.0) p.0.1)
+      ∙ ap (λ m. run m (punct mark.DoubleArrow ∷ punct mark.Ampersand ∷ v)) (after_low k (in_items h items plain ∷ s) (omega arith))
+      ∙ key_on h items k s (punct mark.Ampersand ∷ v) (keyed_array h k (inr l))
 
   pieces_back : (pieces : Pieces Nothing) (s : Stack) (w : List Symbol) → AreProperPieces pieces → run (at_template no_piece s) (spell_pieces pieces w) ≡ run (at_template pieces s) w
   pieces_back no_piece s w p = refl
   pieces_back (bytes pieces text) s w p = pieces_back pieces s (symbol.piece text ∷ w) p
   pieces_back (value pieces e) s w p =
       pieces_back pieces s (symbol.part ∷ spell e (symbol.end_part ∷ w)) p.0
-        ∙ read_back e (in_part pieces ∷ s) (symbol.end_part ∷ w) p.2 (omega arith) (follows_shut symbol.end_part (in_part pieces ∷ s) e w refl (λ a. cc) p.1)
-        ∙ ap (λ m. run m (symbol.end_part ∷ w)) (after_low e (in_part pieces ∷ s) (omega arith))
+      ∙ read_back e (in_part pieces ∷ s) (symbol.end_part ∷ w) p.2 (omega arith) (follows_shut symbol.end_part (in_part pieces ∷ s) e w refl (λ a. cc) p.1)
+      ∙ ap (λ m. run m (symbol.end_part ∷ w)) (after_low e (in_part pieces ∷ s) (omega arith))
 
   class_back : (class : Class Nothing) (s : Stack) (w : List Symbol) → IsProperClass class → run (at_new s) (spell_class class w) ≡ run (at_class class s) w
   class_back (class_name spot text) s w p = refl
@@ -470,5 +471,5 @@ mutual
   steps_back (step_property steps m) s w p = steps_back steps s (punct mark.Arrow ∷ member_symbol m ∷ w) p.0 ∙ property_on m steps s w p.1
   steps_back (step_index steps e) s w p =
       steps_back steps s (punct mark.LeftBracket ∷ spell e (punct mark.RightBracket ∷ w)) p.0
-        ∙ read_back e (in_step steps ∷ s) (punct mark.RightBracket ∷ w) p.1 (omega arith) (follows_bracket (in_step steps) s e w tt)
-        ∙ ap (λ m. run m (punct mark.RightBracket ∷ w)) (after_low e (in_step steps ∷ s) (omega arith))
+      ∙ read_back e (in_step steps ∷ s) (punct mark.RightBracket ∷ w) p.1 (omega arith) (follows_bracket (in_step steps) s e w tt)
+      ∙ ap (λ m. run m (punct mark.RightBracket ∷ w)) (after_low e (in_step steps ∷ s) (omega arith))

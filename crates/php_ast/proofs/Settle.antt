@@ -78,11 +78,11 @@ settled_if true arrow n f s e is h below =
     let lt : n < ends_at arrow f = ltb-true n (ends_at arrow f) is in
     let on : 0 < level_at f = omega (arith, ends_level arrow f) in
     let fits : Fits (filled f e) s = record {
-        proper = filled_proper f s e h.sound.0 h.near h.proper h.seats (inl on);
-        near = subst (λ k. level s ≤ k) (sym (filled_power f e)) h.sound.1;
-        sound = h.sound.2;
-        seats = seats_by s (filled f e) (call_seat f e (endless_call f on));
-      } in
+      proper = filled_proper f s e h.sound.0 h.near h.proper h.seats (inl on);
+      near = subst (λ k. level s ≤ k) (sym (filled_power f e)) h.sound.1;
+      sound = h.sound.2;
+      seats = seats_by s (filled f e) (call_seat f e (endless_call f on));
+    } in
     let r = below fits in
     record {
       fits = r.fits;

@@ -99,7 +99,7 @@ opened_leads asks t e s is low near p sound = led (have e s) (at_question e s) t
 opened_leads (sets op) t e s is low near p sound = assigning_leads op t e s is (operand_by_ends e low) p near sound
 opened_leads (counts c) t e s is low near p sound =
     led (have e s) (have (counted e c) s) t _ is
-      (record { proper = (operand_by_ends e low, p); near = near; sound = sound; seats = seats_by s (counted e c) refl }, record { no_arrow = refl; not_bare = refl }) (λ w. refl)
+    (record { proper = (operand_by_ends e low, p); near = near; sound = sound; seats = seats_by s (counted e c) refl }, record { no_arrow = refl; not_bare = refl }) (λ w. refl)
 opened_leads calls t e s is low near p sound =
     led (have e s) (at_items (of_call e) none s) t _ is (record { holder = (omega arith, p); list = tt; proper = tt }, sound) (λ w. refl)
 opened_leads indexes t e s is low near p sound = led (have e s) (at_index e s) t _ is (omega arith, p, sound) (λ w. refl)
@@ -128,9 +128,9 @@ holder_leads : (h : Holder) (items : Items Nothing) (s : Stack) (m : Mode) (t x 
     → ((w : List Symbol) → written m (x ∷ w) ≡ front s (holder_front h (spell_items items (x ∷ w)))) → Leads m t (Some (after (closed_with h items) s))
 holder_leads h items s m t x is end a b p sound same =
     led m (after (closed_with h items) s) t x is
-      (after_good s (closed_with h items) (closed_proper h items a b p) (closed_power h items) sound (closed_closed h items))
-      (λ w. same w ∙ ap (λ u. front s (holder_front h (spell_items items (u ∷ w)))) (sym end) ∙ ap (front s) (sym (closed_spells h items w))
-        ∙ sym (after_written s (closed_with h items) w))
+    (after_good s (closed_with h items) (closed_proper h items a b p) (closed_power h items) sound (closed_closed h items))
+    (λ w. same w ∙ ap (λ u. front s (holder_front h (spell_items items (u ∷ w)))) (sym end) ∙ ap (front s) (sym (closed_spells h items w))
+    ∙ sym (after_written s (closed_with h items) w))
 
 keys_leads : (b : Bool) (h : Holder) (items : Items Nothing) (lead : Lead Nothing) (e : Form) (s : Stack) (t : Symbol) → is_array h ≡ b → t ≡ closer_symbol double_arrow
     → Fits e (in_items h items lead ∷ s) → IsKey e → Leads (have e (in_items h items lead ∷ s)) t (keys b h items lead e s)
@@ -151,7 +151,7 @@ items_closed : (h : Holder) (items : Items Nothing) (lead : Lead Nothing) (e : F
     → Leads (have e (in_items h items lead ∷ s)) t (Some (after (closed_with h (and items lead e)) s))
 items_closed h items lead e s t x is end a =
     holder_leads h (and items lead e) s (have e (in_items h items lead ∷ s)) t x is end a.sound.0.0.holder
-      (list_end h items lead e (list_more h items lead e a.sound.0.0.list a.sound.0.1)) (a.sound.0.0.proper, a.sound.0.2, a.proper) a.sound.2 (λ w. refl)
+    (list_end h items lead e (list_more h items lead e a.sound.0.0.list a.sound.0.1)) (a.sound.0.0.proper, a.sound.0.2, a.proper) a.sound.2 (λ w. refl)
 
 closed_leads : (c : Closer) (t : Symbol) (e : Form) (f : Frame) (s : Stack) → t ≡ closer_symbol c → Fits e (f ∷ s) → MayClose c e → Leads (have e (f ∷ s)) t (closed c e f s)
 closed_leads paren t e (in_enclosed enclosure) s is h k =
@@ -162,15 +162,15 @@ closed_leads bracket t e (in_items g items lead) s is h k =
     pick_leads (has_paren g) (have e (in_items g items lead ∷ s)) t None (Some (after (closed_with g (and items lead e)) s)) (λ b. tt) (λ b. items_closed g items lead e s t (punct mark.RightBracket) is (bracket_closing_is g b) h)
 closed_leads bracket t e (in_index a) s is h k =
     led (have e (in_index a ∷ s)) (have (index a e) s) t _ is
-      (closed_fits s (index a e) (h.sound.0.0, h.sound.0.1, h.proper) refl refl h.sound.2, record { no_arrow = refl; not_bare = refl }) (λ w. refl)
+    (closed_fits s (index a e) (h.sound.0.0, h.sound.0.1, h.proper) refl refl h.sound.2, record { no_arrow = refl; not_bare = refl }) (λ w. refl)
 closed_leads bracket t e (in_step steps) s is h k =
     led (have e (in_step steps ∷ s)) (at_class (class_found (step_index steps e)) s) t _ is ((h.sound.0, h.proper), h.sound.2) (λ w. refl)
 closed_leads brace t e (in_computed a) s is h k =
     led (have e (in_computed a ∷ s)) (have (computed a e) s) t _ is
-      (closed_fits s (computed a e) (h.sound.0.0, h.sound.0.1, k.not_bare refl, h.proper) refl refl h.sound.2, record { no_arrow = refl; not_bare = refl }) (λ w. refl)
+    (closed_fits s (computed a e) (h.sound.0.0, h.sound.0.1, k.not_bare refl, h.proper) refl refl h.sound.2, record { no_arrow = refl; not_bare = refl }) (λ w. refl)
 closed_leads closing_comma t e (in_items g items lead) s is h k =
     led (have e (in_items g items lead ∷ s)) (at_items g (and items lead e) s) t _ is
-      (record { holder = h.sound.0.0.holder; list = list_more g items lead e h.sound.0.0.list h.sound.0.1; proper = (h.sound.0.0.proper, h.sound.0.2, h.proper) }, h.sound.2) (λ w. refl)
+    (record { holder = h.sound.0.0.holder; list = list_more g items lead e h.sound.0.0.list h.sound.0.1; proper = (h.sound.0.0.proper, h.sound.0.2, h.proper) }, h.sound.2) (λ w. refl)
 closed_leads double_arrow t e (in_items g items lead) s is h k = keys_leads (is_array g) g items lead e s t refl is h (k.no_arrow refl, k.not_bare refl)
 closed_leads double_arrow t e in_yield s is h k =
     led (have e (in_yield ∷ s)) (need (in_yield_value e ∷ s)) t _ is ((omega (arith, h.near), (k.no_arrow refl, k.not_bare refl), h.proper), h.sound.1, h.sound.2) (λ w. refl)
@@ -190,7 +190,7 @@ drawn_leads : (x : Next) (t : Symbol) (e : Form) (s : Stack) → Says x t → Fi
     → (is_arrow x ≡ true → takes_arrow e ≡ false) → (ends_yield x ≡ false → ends_bare e ≡ false) → Leads (have e s) t (drawn x (record { tree = e; stack = s }))
 drawn_leads (draws d) t e s is h near a b =
     provided_leads (nat_lt (draw_weight d) (ends e)) (have e s) (opened d e s) t (λ low.
-      opened_leads d t e s is (ltb-true (draw_weight d) (ends e) low) near h.proper h.sound)
+    opened_leads d t e s is (ltb-true (draw_weight d) (ends e) low) near h.proper h.sound)
 drawn_leads (closes c) t e s is h near a b = closes_leads c t e s is h (record { no_arrow = a; not_bare = b })
 drawn_leads other t e s is h near a b = tt
 
@@ -199,7 +199,7 @@ settled_leads : (x : Next) (t : Symbol) (e : Form) (s : Stack) (d : Due) → Say
     → (is_arrow x ≡ true → takes_arrow e ≡ false) → (ends_yield x ≡ false → ends_bare e ≡ false) → Leads (have e s) t (drawn x d)
 settled_leads x t e s d is h a b =
     behind (have d.tree d.stack) (have e s) t (drawn x d) h.same
-      (drawn_leads x t d.tree d.stack is h.fits h.low (λ i. h.no_arrow i (a i)) (λ i. h.bare_is ∙ b i))
+    (drawn_leads x t d.tree d.stack is h.fits h.low (λ i. h.no_arrow i (a i)) (λ i. h.bare_is ∙ b i))
 
 pub goes_on_leads : (x : Next) (t : Symbol) (e : Form) (s : Stack) → Says x t → Fits e s → (is_arrow x ≡ true → takes_arrow e ≡ false)
     → (ends_yield x ≡ false → ends_bare e ≡ false) → Leads (have e s) t (goes_on e s x)
@@ -233,7 +233,7 @@ started_leads (lists (array form.List)) t s is h = led (need s) (due_listed (arr
 started_leads (lists isset) t s is h = led (need s) (due_listed isset s) t _ is (refl, h) (λ w. refl)
 started_leads (operates op) t s is h =
     provided_leads (nat_lt (level s) operand_level) (need s) (need (in_prefix op ∷ s)) t (λ low.
-      led (need s) (need (in_prefix op ∷ s)) t _ is (tt, level_free s (ltb-true (level s) operand_level low), h) (λ w. refl))
+    led (need s) (need (in_prefix op ∷ s)) t _ is (tt, level_free s (ltb-true (level s) operand_level low), h) (λ w. refl))
 started_leads nothing t s is h = tt
 
 start_leads : (t : Symbol) (s : Stack) → Sound s → Leads (need s) t (start s t)
@@ -305,35 +305,35 @@ list_ends : (h : Holder) (items : Items Nothing) (s : Stack) (t x : Symbol) → 
     → Leads (at_items h items s) t (provided (may_end h items) (after (closed_with h (ended_items items)) s))
 list_ends h items s t x is end a sound =
     provided_leads (may_end h items) (at_items h items s) (after (closed_with h (ended_items items)) s) t (λ may.
-      holder_leads h (ended_items items) s (at_items h items s) t x is end a.holder (ended_sound h items may a.list) (ended_proper items a.proper) sound
-        (λ w. ended_written h items s x w))
+    holder_leads h (ended_items items) s (at_items h items s) t x is end a.holder (ended_sound h items may a.list) (ended_proper items a.proper) sound
+    (λ w. ended_written h items s x w))
 
 ended_by_leads : (c : Closer) (t : Symbol) (h : Holder) (items : Items Nothing) (s : Stack) → t ≡ closer_symbol c → SoundItems h items → Sound s
     → Leads (at_items h items s) t (ended_by c h items s)
 ended_by_leads closing_comma t h items s is a sound =
     provided_leads (is_array h) (at_items h items s) (at_items h (skip items) s) t (λ array_is.
-      led (at_items h items s) (at_items h (skip items) s) t _ is
-        (record { holder = a.holder; list = array_skip h items array_is a.list; proper = a.proper }, sound) (λ w. refl))
+    led (at_items h items s) (at_items h (skip items) s) t _ is
+    (record { holder = a.holder; list = array_skip h items array_is a.list; proper = a.proper }, sound) (λ w. refl))
 ended_by_leads paren t h items s is a sound =
     pick_leads (has_paren h) (at_items h items s) t (provided (may_end h items) (after (closed_with h (ended_items items)) s)) None
-      (λ b. list_ends h items s t (punct mark.RightParen) is (holder_closing_is h b) a sound) (λ b. tt)
+    (λ b. list_ends h items s t (punct mark.RightParen) is (holder_closing_is h b) a sound) (λ b. tt)
 ended_by_leads bracket t h items s is a sound =
     pick_leads (has_paren h) (at_items h items s) t None (provided (may_end h items) (after (closed_with h (ended_items items)) s))
-      (λ b. tt) (λ b. list_ends h items s t (punct mark.RightBracket) is (bracket_closing_is h b) a sound)
+    (λ b. tt) (λ b. list_ends h items s t (punct mark.RightBracket) is (bracket_closing_is h b) a sound)
 ended_by_leads _ t h items s is a sound = tt
 
 item_leads : (x : Mark) (t : Symbol) (h : Holder) (items : Items Nothing) (s : Stack) → MarkSays x t → SoundItems h items → Sound s
     → Leads (at_items h items s) t (item_step x h items s t)
 item_leads refers t h items s is a sound =
     provided_leads (is_array h) (at_items h items s) (need (in_items h items reference ∷ s)) t (λ b.
-      led (at_items h items s) (need (in_items h items reference ∷ s)) t _ is (items_sound h items reference s a (array_reference h b) tt sound) (λ w. refl))
+    led (at_items h items s) (need (in_items h items reference ∷ s)) t _ is (items_sound h items reference s a (array_reference h b) tt sound) (λ w. refl))
 item_leads spreads t h items s is a sound =
     provided_leads (is_arguments h) (at_items h items s) (need (in_items h items spread ∷ s)) t (λ b.
-      led (at_items h items s) (need (in_items h items spread ∷ s)) t _ is (items_sound h items spread s a (arguments_spread h b) tt sound) (λ w. refl))
+    led (at_items h items s) (need (in_items h items spread ∷ s)) t _ is (items_sound h items spread s a (arguments_spread h b) tt sound) (λ w. refl))
 item_leads (ends_item c) t h items s is a sound = ended_by_leads c t h items s is a sound
 item_leads begins t h items s is a sound =
     behind (need (in_items h items plain ∷ s)) (at_items h items s) t (start (in_items h items plain ∷ s) t) (λ w. refl)
-      (start_leads t (in_items h items plain ∷ s) (items_sound h items plain s a (plain_lead h) tt sound))
+    (start_leads t (in_items h items plain ∷ s) (items_sound h items plain s a (plain_lead h) tt sound))
 
 -- ---- names, texts and classes
 
@@ -359,9 +359,9 @@ selected_good arrow e s h x = (closed_fits s (selected e arrow x) (h.0, h.1) ref
 arrow_leads : (arrow : Arrow) (t : Symbol) (e : Form) (s : Stack) → IsGood (at_arrow arrow e s) → Leads (at_arrow arrow e s) t (arrow_step arrow e s t)
 arrow_leads thin t e s h =
     pick_leads (is_left_brace t) (at_arrow thin e s) t (Some (need (in_computed e ∷ s))) (with_member (member_of t) (λ m. have (selected e thin m) s))
-      (λ b. led (at_arrow thin e s) (need (in_computed e ∷ s)) t _ (test_is (is_left_brace t) t (punct mark.LeftBrace) (left_brace_says t) b)
-        ((h.0, h.1), omega (arith, level_top s), h.2) (λ w. refl))
-      (λ b. member_leads (member_of t) (λ m. have (selected e thin m) s) (at_arrow thin e s) t (member_says t) (selected_good thin e s h) (λ x w. refl))
+    (λ b. led (at_arrow thin e s) (need (in_computed e ∷ s)) t _ (test_is (is_left_brace t) t (punct mark.LeftBrace) (left_brace_says t) b)
+    ((h.0, h.1), omega (arith, level_top s), h.2) (λ w. refl))
+    (λ b. member_leads (member_of t) (λ m. have (selected e thin m) s) (at_arrow thin e s) t (member_says t) (selected_good thin e s h) (λ x w. refl))
 arrow_leads colons t e s h =
     member_leads (member_of t) (λ m. have (selected e colons m) s) (at_arrow colons e s) t (member_says t) (selected_good colons e s h) (λ x w. refl)
 
@@ -381,7 +381,7 @@ new_fits class s p sound = closed_fits s (new tt class) p refl refl sound
 new_goes_on : (x : Next) (t : Symbol) (class : Class Nothing) (s : Stack) → Says x t → IsProperClass class → Sound s → Leads (at_class class s) t (goes_on (new tt class) s x)
 new_goes_on x t class s is p sound =
     behind (have (new tt class) s) (at_class class s) t (goes_on (new tt class) s x) (λ w. refl)
-      (goes_on_leads x t (new tt class) s is (new_fits class s p sound) (λ i. refl) (λ i. refl))
+    (goes_on_leads x t (new tt class) s is (new_fits class s p sound) (λ i. refl) (λ i. refl))
 
 new_called : (t : Symbol) (class : Class Nothing) (s : Stack) → t ≡ draw_symbol calls → IsProperClass class → Sound s → Leads (at_class class s) t (Some (at_items (of_new class) none s))
 new_called t class s is p sound = led (at_class class s) (at_items (of_new class) none s) t _ is (record { holder = p; list = tt; proper = tt }, sound) (λ w. refl)
@@ -403,7 +403,7 @@ static_alone_leads : (x : Next) (t : Symbol) (s : Stack) → Says x t → Sound 
 static_alone_leads x t [] is h = tt
 static_alone_leads x t (in_instance l ∷ s) is h =
     behind (have (static_instance l tt) s) (at_static (in_instance l ∷ s)) t (goes_on (static_instance l tt) s x) (λ w. refl)
-      (goes_on_leads x t (static_instance l tt) s is (record { proper = h.0; near = h.1; sound = h.2; seats = seats_by s (static_instance l tt) refl }) (λ i. refl) (λ i. refl))
+    (goes_on_leads x t (static_instance l tt) s is (record { proper = h.0; near = h.1; sound = h.2; seats = seats_by s (static_instance l tt) refl }) (λ i. refl) (λ i. refl))
 static_alone_leads x t (f ∷ s) is h = tt
 
 static_leads : (x : Next) (t : Symbol) (s : Stack) → Says x t → Sound s → Leads (at_static s) t (static_step s x)
@@ -419,13 +419,13 @@ due_enclosed_leads : (enclosure : Enclosure) (t : Symbol) (s : Stack) → TestSa
     → Leads (due_enclosed enclosure s) t (provided (is_paren t) (need (in_enclosed enclosure ∷ s)))
 due_enclosed_leads parentheses t s says h =
     provided_leads (is_paren t) (due_enclosed parentheses s) (need (in_enclosed parentheses ∷ s)) t (λ b.
-      led (due_enclosed parentheses s) (need (in_enclosed parentheses ∷ s)) t _ (test_is (is_paren t) t _ says b) (tt, omega (arith, level_top s), h) (λ w. refl))
+    led (due_enclosed parentheses s) (need (in_enclosed parentheses ∷ s)) t _ (test_is (is_paren t) t _ says b) (tt, omega (arith, level_top s), h) (λ w. refl))
 due_enclosed_leads emptiness t s says h =
     provided_leads (is_paren t) (due_enclosed emptiness s) (need (in_enclosed emptiness ∷ s)) t (λ b.
-      led (due_enclosed emptiness s) (need (in_enclosed emptiness ∷ s)) t _ (test_is (is_paren t) t _ says b) (tt, omega (arith, level_top s), h) (λ w. refl))
+    led (due_enclosed emptiness s) (need (in_enclosed emptiness ∷ s)) t _ (test_is (is_paren t) t _ says b) (tt, omega (arith, level_top s), h) (λ w. refl))
 due_enclosed_leads exiting t s says h =
     provided_leads (is_paren t) (due_enclosed exiting s) (need (in_enclosed exiting ∷ s)) t (λ b.
-      led (due_enclosed exiting s) (need (in_enclosed exiting ∷ s)) t _ (test_is (is_paren t) t _ says b) (tt, omega (arith, level_top s), h) (λ w. refl))
+    led (due_enclosed exiting s) (need (in_enclosed exiting ∷ s)) t _ (test_is (is_paren t) t _ says b) (tt, omega (arith, level_top s), h) (λ w. refl))
 
 listing_front : (listing : Listing) → has_paren (of_list listing) ≡ true → (w : List Symbol) → listing_word listing ∷ punct mark.LeftParen ∷ w ≡ list_opening listing w
 listing_front (array form.Brackets) is w = cc
@@ -441,53 +441,53 @@ due_listed_leads : (listing : Listing) (t : Symbol) (s : Stack) → IsGood (due_
     → Leads (due_listed listing s) t (provided (is_paren t) (at_items (of_list listing) none s))
 due_listed_leads listing t s h =
     provided_leads (is_paren t) (due_listed listing s) (at_items (of_list listing) none s) t (λ b.
-      led (due_listed listing s) (at_items (of_list listing) none s) t _ (test_is (is_paren t) t _ (paren_says t) b) (empty_list listing, h.1)
-        (λ w. ap (front s) (listing_front listing h.0 w)))
+    led (due_listed listing s) (at_items (of_list listing) none s) t _ (test_is (is_paren t) t _ (paren_says t) b) (empty_list listing, h.1)
+    (λ w. ap (front s) (listing_front listing h.0 w)))
 
 value_leads : (h : Holder) (items : Items Nothing) (k : Form) (t : Symbol) (s : Stack) → IsGood (at_value h items k s)
     → Leads (at_value h items k s) t (step (at_value h items k s) t)
 value_leads h items k t s g =
     pick_leads (is_ampersand t) (at_value h items k s) t (Some (need (in_items h items (keyed_reference k) ∷ s))) (start (in_items h items (keyed k) ∷ s) t)
-      (λ b. led (at_value h items k s) (need (in_items h items (keyed_reference k) ∷ s)) t _ (test_is (is_ampersand t) t (punct mark.Ampersand) (ampersand_says t) b)
-        (items_sound h items (keyed_reference k) s g.0 (array_keyed h k g.1).1 (g.2, g.3) g.4) (λ w. refl))
-      (λ b. behind (need (in_items h items (keyed k) ∷ s)) (at_value h items k s) t (start (in_items h items (keyed k) ∷ s) t) (λ w. refl)
-        (start_leads t (in_items h items (keyed k) ∷ s) (items_sound h items (keyed k) s g.0 (array_keyed h k g.1).0 (g.2, g.3) g.4)))
+    (λ b. led (at_value h items k s) (need (in_items h items (keyed_reference k) ∷ s)) t _ (test_is (is_ampersand t) t (punct mark.Ampersand) (ampersand_says t) b)
+    (items_sound h items (keyed_reference k) s g.0 (array_keyed h k g.1).1 (g.2, g.3) g.4) (λ w. refl))
+    (λ b. behind (need (in_items h items (keyed k) ∷ s)) (at_value h items k s) t (start (in_items h items (keyed k) ∷ s) t) (λ w. refl)
+    (start_leads t (in_items h items (keyed k) ∷ s) (items_sound h items (keyed k) s g.0 (array_keyed h k g.1).0 (g.2, g.3) g.4)))
 
 exit_leads : (t : Symbol) (s : Stack) → Sound s → Leads (at_exit s) t (step (at_exit s) t)
 exit_leads t s h =
     pick_leads (is_paren t) (at_exit s) t (Some (at_exit_paren s)) (goes_on (exit tt) s (next t))
-      (λ b. led (at_exit s) (at_exit_paren s) t _ (test_is (is_paren t) t (punct mark.LeftParen) (paren_says t) b) h (λ w. refl))
-      (λ b. behind (have (exit tt) s) (at_exit s) t (goes_on (exit tt) s (next t)) (λ w. refl)
-        (closed_goes_on t (exit tt) s (closed_fits s (exit tt) tt refl refl h) (record { no_arrow = refl; not_bare = refl })))
+    (λ b. led (at_exit s) (at_exit_paren s) t _ (test_is (is_paren t) t (punct mark.LeftParen) (paren_says t) b) h (λ w. refl))
+    (λ b. behind (have (exit tt) s) (at_exit s) t (goes_on (exit tt) s (next t)) (λ w. refl)
+    (closed_goes_on t (exit tt) s (closed_fits s (exit tt) tt refl refl h) (record { no_arrow = refl; not_bare = refl })))
 
 exit_paren_leads : (t : Symbol) (s : Stack) → Sound s → Leads (at_exit_paren s) t (step (at_exit_paren s) t)
 exit_paren_leads t s h =
     pick_leads (is_right_paren t) (at_exit_paren s) t (Some (have (exit_empty tt) s)) (start (in_enclosed exiting ∷ s) t)
-      (λ b. led (at_exit_paren s) (have (exit_empty tt) s) t _ (test_is (is_right_paren t) t (punct mark.RightParen) (right_paren_says t) b)
-        (closed_fits s (exit_empty tt) tt refl refl h, record { no_arrow = refl; not_bare = refl }) (λ w. refl))
-      (λ b. behind (need (in_enclosed exiting ∷ s)) (at_exit_paren s) t (start (in_enclosed exiting ∷ s) t) (λ w. refl)
-        (start_leads t (in_enclosed exiting ∷ s) (tt, omega (arith, level_top s), h)))
+    (λ b. led (at_exit_paren s) (have (exit_empty tt) s) t _ (test_is (is_right_paren t) t (punct mark.RightParen) (right_paren_says t) b)
+    (closed_fits s (exit_empty tt) tt refl refl h, record { no_arrow = refl; not_bare = refl }) (λ w. refl))
+    (λ b. behind (need (in_enclosed exiting ∷ s)) (at_exit_paren s) t (start (in_enclosed exiting ∷ s) t) (λ w. refl)
+    (start_leads t (in_enclosed exiting ∷ s) (tt, omega (arith, level_top s), h)))
 
 index_leads : (e : Form) (t : Symbol) (s : Stack) → IsGood (at_index e s) → Leads (at_index e s) t (step (at_index e s) t)
 index_leads e t s h =
     pick_leads (is_right_bracket t) (at_index e s) t (Some (have (append e) s)) (start (in_index e ∷ s) t)
-      (λ b. led (at_index e s) (have (append e) s) t _ (test_is (is_right_bracket t) t (punct mark.RightBracket) (right_bracket_says t) b)
-        (closed_fits s (append e) (h.0, h.1) refl refl h.2, record { no_arrow = refl; not_bare = refl }) (λ w. refl))
-      (λ b. behind (need (in_index e ∷ s)) (at_index e s) t (start (in_index e ∷ s) t) (λ w. refl)
-        (start_leads t (in_index e ∷ s) ((h.0, h.1), omega (arith, level_top s), h.2)))
+    (λ b. led (at_index e s) (have (append e) s) t _ (test_is (is_right_bracket t) t (punct mark.RightBracket) (right_bracket_says t) b)
+    (closed_fits s (append e) (h.0, h.1) refl refl h.2, record { no_arrow = refl; not_bare = refl }) (λ w. refl))
+    (λ b. behind (need (in_index e ∷ s)) (at_index e s) t (start (in_index e ∷ s) t) (λ w. refl)
+    (start_leads t (in_index e ∷ s) ((h.0, h.1), omega (arith, level_top s), h.2)))
 
 question_leads : (c : Form) (t : Symbol) (s : Stack) → IsGood (at_question c s) → Leads (at_question c s) t (step (at_question c s) t)
 question_leads c t s h =
     pick_leads (is_colon t) (at_question c s) t (Some (need (in_short c ∷ s))) (start (in_then c ∷ s) t)
-      (λ b. led (at_question c s) (need (in_short c ∷ s)) t _ (test_is (is_colon t) t (punct mark.Colon) (colon_says t) b) ((h.0, h.1), h.2, h.3) (λ w. refl))
-      (λ b. behind (need (in_then c ∷ s)) (at_question c s) t (start (in_then c ∷ s) t) (λ w. refl) (start_leads t (in_then c ∷ s) ((h.0, h.1), h.2, h.3)))
+    (λ b. led (at_question c s) (need (in_short c ∷ s)) t _ (test_is (is_colon t) t (punct mark.Colon) (colon_says t) b) ((h.0, h.1), h.2, h.3) (λ w. refl))
+    (λ b. behind (need (in_then c ∷ s)) (at_question c s) t (start (in_then c ∷ s) t) (λ w. refl) (start_leads t (in_then c ∷ s) ((h.0, h.1), h.2, h.3)))
 
 assign_leads : (l : Form) (t : Symbol) (s : Stack) → IsGood (at_assign l s) → Leads (at_assign l s) t (step (at_assign l s) t)
 assign_leads l t s h =
     pick_leads (is_ampersand t) (at_assign l s) t (Some (need (in_assign by_reference l ∷ s))) (start (in_assign (by_value setting.Plain) l ∷ s) t)
-      (λ b. led (at_assign l s) (need (in_assign by_reference l ∷ s)) t _ (test_is (is_ampersand t) t (punct mark.Ampersand) (ampersand_says t) b) ((h.0, h.1), h.2, h.3) (λ w. refl))
-      (λ b. behind (need (in_assign (by_value setting.Plain) l ∷ s)) (at_assign l s) t (start (in_assign (by_value setting.Plain) l ∷ s) t) (λ w. refl)
-        (start_leads t (in_assign (by_value setting.Plain) l ∷ s) ((h.0, h.1), h.2, h.3)))
+    (λ b. led (at_assign l s) (need (in_assign by_reference l ∷ s)) t _ (test_is (is_ampersand t) t (punct mark.Ampersand) (ampersand_says t) b) ((h.0, h.1), h.2, h.3) (λ w. refl))
+    (λ b. behind (need (in_assign (by_value setting.Plain) l ∷ s)) (at_assign l s) t (start (in_assign (by_value setting.Plain) l ∷ s) t) (λ w. refl)
+    (start_leads t (in_assign (by_value setting.Plain) l ∷ s) ((h.0, h.1), h.2, h.3)))
 
 bare_fits : (s : Stack) → IsGood (at_yield s) → Fits (yield_nothing tt) s
 bare_fits s h = record { proper = tt; near = h.0; sound = h.1; seats = seats_by s (yield_nothing tt) refl }
@@ -501,24 +501,24 @@ yield_arrow other e a = cc
 yield_leads : (t : Symbol) (s : Stack) → IsGood (at_yield s) → Leads (at_yield s) t (step (at_yield s) t)
 yield_leads t s h =
     pick_leads (ends_yield (next t)) (at_yield s) t (goes_on (yield_nothing tt) s (next t)) (start (in_yield ∷ s) t)
-      (λ b. behind (have (yield_nothing tt) s) (at_yield s) t (goes_on (yield_nothing tt) s (next t)) (λ w. refl)
-        (goes_on_leads (next t) t (yield_nothing tt) s (next_says t) (bare_fits s h) (λ i. refl) (λ i. cc)))
-      (λ b. behind (need (in_yield ∷ s)) (at_yield s) t (start (in_yield ∷ s) t) (λ w. refl) (start_leads t (in_yield ∷ s) (tt, h.0, h.1)))
+    (λ b. behind (have (yield_nothing tt) s) (at_yield s) t (goes_on (yield_nothing tt) s (next t)) (λ w. refl)
+    (goes_on_leads (next t) t (yield_nothing tt) s (next_says t) (bare_fits s h) (λ i. refl) (λ i. cc)))
+    (λ b. behind (need (in_yield ∷ s)) (at_yield s) t (start (in_yield ∷ s) t) (λ w. refl) (start_leads t (in_yield ∷ s) (tt, h.0, h.1)))
 
 -- A call behind `instanceof` goes on with a suffix alone, which draws tighter than that form.
 call_goes_on : (x : Next) (t : Symbol) (e : Form) (s : Stack) → Says x t → IsGood (have_call e s) → operand_level < weight_of x → Leads (have e s) t (goes_on e s x)
 call_goes_on (draws d) t e s is h tight =
     subst (λ due. Leads (have e s) t (drawn (draws d) due)) (sym (settle_none false (draw_weight d) s e (omega (arith, level_top s, top_level s))))
-      (provided_leads (nat_lt (draw_weight d) (ends e)) (have e s) (opened d e s) t (λ low.
-        opened_leads d t e s is (ltb-true (draw_weight d) (ends e) low) (omega (arith, level_top s)) h.1 h.2))
+    (provided_leads (nat_lt (draw_weight d) (ends e)) (have e s) (opened d e s) t (λ low.
+    opened_leads d t e s is (ltb-true (draw_weight d) (ends e) low) (omega (arith, level_top s)) h.1 h.2))
 call_goes_on (closes c) t e s is h tight = absurd (omega arith)
 call_goes_on other t e s is h tight = absurd (omega arith)
 
 call_leads : (e : Form) (t : Symbol) (s : Stack) → IsGood (have_call e s) → Leads (have_call e s) t (step (have_call e s) t)
 call_leads e t s h =
     pick_leads (nat_lt operand_level (weight t)) (have_call e s) t (goes_on e s (next t)) None
-      (λ b. behind (have e s) (have_call e s) t (goes_on e s (next t)) (λ w. refl) (call_goes_on (next t) t e s (next_says t) h (ltb-true operand_level (weight t) b)))
-      (λ b. tt)
+    (λ b. behind (have e s) (have_call e s) t (goes_on e s (next t)) (λ w. refl) (call_goes_on (next t) t e s (next_says t) h (ltb-true operand_level (weight t) b)))
+    (λ b. tt)
 
 step_property_good : (steps : Steps Nothing) (s : Stack) → IsGood (at_step steps s) → (x : Member Nothing) → IsWord x → IsGood (at_class (class_found (step_property steps x)) s)
 step_property_good steps s h x is = ((h.0, is), h.1)
@@ -579,7 +579,7 @@ static_begins : (s : Stack) (w : List Symbol) → Sound s → Begins (at_static 
 static_begins [] w h = operand_begins (at_static []) w (static_member tt any_member) [] (punct mark.DoubleColon ∷ any_symbol ∷ []) tt refl refl refl h refl
 static_begins (in_instance l ∷ s) w h =
     stop_begins_with (at_static (in_instance l ∷ s)) w (static_instance l tt) s (lacks s)
-      (record { proper = h.0; near = h.1; sound = h.2; seats = seats_by s (static_instance l tt) refl }) refl refl
+    (record { proper = h.0; near = h.1; sound = h.2; seats = seats_by s (static_instance l tt) refl }) refl refl
 static_begins (f ∷ s) w h =
     operand_begins (at_static (f ∷ s)) w (static_member tt any_member) (f ∷ s) (punct mark.DoubleColon ∷ any_symbol ∷ lacks (f ∷ s)) tt refl refl refl h refl
 
@@ -611,7 +611,7 @@ stop_begins (due_enclosed enclosure s) w h = due_begins enclosure s w h
 stop_begins (due_listed listing s) w h =
     let sound : Sound (in_items (of_list listing) none plain ∷ s) = items_sound (of_list listing) none plain s (empty_list listing) (plain_lead (of_list listing)) tt h.1 in
     stop_begins_with (due_listed listing s) w any (in_items (of_list listing) none plain ∷ s) (punct mark.LeftParen ∷ any_symbol ∷ lacks (in_items (of_list listing) none plain ∷ s))
-      (any_fits (in_items (of_list listing) none plain ∷ s) sound) refl (ap (front s) (sym (listing_front listing h.0 _)))
+    (any_fits (in_items (of_list listing) none plain ∷ s) sound) refl (ap (front s) (sym (listing_front listing h.0 _)))
 stop_begins (at_items g items s) w h = short_begins (at_items g items s) w (in_items g items plain ∷ s) (items_sound g items plain s h.0 (plain_lead g) tt h.1) (λ v. refl)
 stop_begins (at_value g items k s) w h =
     short_begins (at_value g items k s) w (in_items g items (keyed k) ∷ s) (items_sound g items (keyed k) s h.0 (array_keyed g k h.1).0 (h.2, h.3) h.4) (λ v. refl)

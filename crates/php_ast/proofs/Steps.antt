@@ -37,18 +37,18 @@ head_weight w = weight_of (head_next w)
 pub after_low : (e : Form) (s : Stack) → level s < 90 → after e s ≡ have e s
 after_low e s h = low_by (is_call e) e s h
   where
-  low_by : (b : Bool) (e : Form) (s : Stack) → level s < 90 → after_by b e s ≡ have e s
-  low_by false e s h = refl
-  low_by true e [] h = refl
-  low_by true e (in_instance l ∷ s) h = absurd (omega arith)
-  low_by true e (f ∷ s) h = refl
+    low_by : (b : Bool) (e : Form) (s : Stack) → level s < 90 → after_by b e s ≡ have e s
+    low_by false e s h = refl
+    low_by true e [] h = refl
+    low_by true e (in_instance l ∷ s) h = absurd (omega arith)
+    low_by true e (f ∷ s) h = refl
 
 -- ---- behind an expression
 
 goes_on_draws : (d : Draw) (e : Form) (s : Stack) → level s ≤ draw_weight d → draw_weight d < ends e → goes_on e s (draws d) ≡ Some (opened d e s)
 goes_on_draws d e s near low =
     ap (drawn (draws d)) (settle_none false (draw_weight d) s e (omega (arith, top_level s)))
-      ∙ ap (λ b. provided b (opened d e s)) (lt-ltb (draw_weight d) (ends e) low)
+    ∙ ap (λ b. provided b (opened d e s)) (lt-ltb (draw_weight d) (ends e) low)
 
 pub draws_on : (d : Draw) (e : Form) (s : Stack) (w : List Symbol) → level s ≤ draw_weight d → draw_weight d < ends e
     → run (have e s) (draw_symbol d ∷ w) ≡ run (opened d e s) w
@@ -61,9 +61,9 @@ suffix_by false d e s w tight low = draws_on d e s w (omega (arith, level_top s)
 suffix_by true d e [] w tight low = draws_on d e [] w (omega arith) low
 suffix_by true d e (in_instance l ∷ s) w tight low =
     moves (have_call e (in_instance l ∷ s)) (opened d e (in_instance l ∷ s)) (draw_symbol d) w
-      (ap (λ x. pick (nat_lt operand_level (weight_of x)) (goes_on e (in_instance l ∷ s) x) None) (next_draw d)
-        ∙ ap (λ b. pick b (goes_on e (in_instance l ∷ s) (draws d)) None) (lt-ltb operand_level (draw_weight d) tight)
-        ∙ goes_on_draws d e (in_instance l ∷ s) (omega arith) low)
+    (ap (λ x. pick (nat_lt operand_level (weight_of x)) (goes_on e (in_instance l ∷ s) x) None) (next_draw d)
+    ∙ ap (λ b. pick b (goes_on e (in_instance l ∷ s) (draws d)) None) (lt-ltb operand_level (draw_weight d) tight)
+    ∙ goes_on_draws d e (in_instance l ∷ s) (omega arith) low)
 suffix_by true d e (f ∷ s) w tight low = draws_on d e (f ∷ s) w (omega (arith, level_top (f ∷ s))) low
 
 pub suffix_on : (d : Draw) (e : Form) (s : Stack) (w : List Symbol) → 90 < draw_weight d → draw_weight d < ends e
@@ -80,7 +80,7 @@ operator_on d e s w small near low = ap (λ m. run m (draw_symbol d ∷ w)) (aft
 stop_filled : (f : Frame) (s : Stack) (e : Form) (w : List Symbol) → 0 < level_at f → stop (have e (f ∷ s)) w ≡ stop (have (filled f e) s) w
 stop_filled f s e w h =
     ap (λ b. record { tree = plug s (seated b s (filled f e)); lacked = end_at f (seat_end b s (lacks s)); left = w }) (endless_call f h)
-      ∙ ap (λ v. record { tree = plug s (filled f e); lacked = v; left = w }) (endless f (lacks s) h)
+    ∙ ap (λ v. record { tree = plug s (filled f e); lacked = v; left = w }) (endless f (lacks s) h)
 
 pub ended_step : (f : Frame) (s : Stack) (e : Form) (x : Next) → weight_of x < ends_at (is_arrow x) f → goes_on e (f ∷ s) x ≡ goes_on (filled f e) s x
 ended_step f s e x h =
@@ -91,7 +91,7 @@ pub ended : (f : Frame) (s : Stack) (e : Form) (w : List Symbol) → 0 < level_a
 ended f s e [] on h = stop_filled f s e [] on
 ended f s e (t ∷ w) on h =
     ap (λ o. onward o (λ n. run n w) (stop (have e (f ∷ s)) (t ∷ w))) (ended_step f s e (next t) h)
-      ∙ ap (λ o. onward (goes_on (filled f e) s (next t)) (λ n. run n w) o) (stop_filled f s e (t ∷ w) on)
+    ∙ ap (λ o. onward (goes_on (filled f e) s (next t)) (λ n. run n w) o) (stop_filled f s e (t ∷ w) on)
 
 -- ---- where an expression begins
 
@@ -99,7 +99,7 @@ pub prefix_on : (op : Prefix) (s : Stack) (w : List Symbol) → level s ≤ free
     → run (need s) (prefix_symbol op ∷ w) ≡ run (need (in_prefix op ∷ s)) w
 prefix_on op s w h =
     moves (need s) (need (in_prefix op ∷ s)) (prefix_symbol op) w
-      (ap (λ x. started x s) (first_prefix op) ∙ ap (λ b. provided b (need (in_prefix op ∷ s))) (lt-ltb (level s) operand_level (omega arith)))
+    (ap (λ x. started x s) (first_prefix op) ∙ ap (λ b. provided b (need (in_prefix op ∷ s))) (lt-ltb (level s) operand_level (omega arith)))
 
 pub yield_on : (s : Stack) (w : List Symbol) → level s ≤ free → run (need s) (keyword word.Yield ∷ w) ≡ run (at_yield s) w
 yield_on s w h = moves (need s) (at_yield s) (keyword word.Yield) w (ap (λ b. provided b (at_yield s)) (lt-ltb (level s) operand_level (omega arith)))
@@ -113,31 +113,31 @@ pub enter_index : (e : Form) (s : Stack) (v : List Symbol) → Starts v → run 
 enter_index e s [] h = absurd h
 enter_index e s (t ∷ w) h =
     ap (λ b. onward (pick b (Some (have (append e) s)) (start (in_index e ∷ s) t)) (λ n. run n w) (stop_short (in_index e ∷ s) (t ∷ w)))
-      (test_false (is_right_bracket t) t (punct mark.RightBracket) (right_bracket_says t) refl h)
+    (test_false (is_right_bracket t) t (punct mark.RightBracket) (right_bracket_says t) refl h)
 
 pub enter_exit : (s : Stack) (v : List Symbol) → Starts v → run (at_exit_paren s) v ≡ run (need (in_enclosed exiting ∷ s)) v
 enter_exit s [] h = absurd h
 enter_exit s (t ∷ w) h =
     ap (λ b. onward (pick b (Some (have (exit_empty tt) s)) (start (in_enclosed exiting ∷ s) t)) (λ n. run n w) (stop_short (in_enclosed exiting ∷ s) (t ∷ w)))
-      (test_false (is_right_paren t) t (punct mark.RightParen) (right_paren_says t) refl h)
+    (test_false (is_right_paren t) t (punct mark.RightParen) (right_paren_says t) refl h)
 
 pub enter_then : (c : Form) (s : Stack) (v : List Symbol) → Starts v → run (at_question c s) v ≡ run (need (in_then c ∷ s)) v
 enter_then c s [] h = absurd h
 enter_then c s (t ∷ w) h =
     ap (λ b. onward (pick b (Some (need (in_short c ∷ s))) (start (in_then c ∷ s) t)) (λ n. run n w) (stop_short (in_then c ∷ s) (t ∷ w)))
-      (test_false (is_colon t) t (punct mark.Colon) (colon_says t) refl h)
+    (test_false (is_colon t) t (punct mark.Colon) (colon_says t) refl h)
 
 pub enter_assign : (l : Form) (s : Stack) (v : List Symbol) → Starts v → run (at_assign l s) v ≡ run (need (in_assign (by_value setting.Plain) l ∷ s)) v
 enter_assign l s [] h = absurd h
 enter_assign l s (t ∷ w) h =
     ap (λ b. onward (pick b (Some (need (in_assign by_reference l ∷ s))) (start (in_assign (by_value setting.Plain) l ∷ s) t)) (λ n. run n w) (stop_short (in_assign (by_value setting.Plain) l ∷ s) (t ∷ w)))
-      (test_false (is_ampersand t) t (punct mark.Ampersand) (ampersand_says t) refl h)
+    (test_false (is_ampersand t) t (punct mark.Ampersand) (ampersand_says t) refl h)
 
 pub enter_value : (h : Holder) (items : Items Nothing) (k : Form) (s : Stack) (v : List Symbol) → Starts v → run (at_value h items k s) v ≡ run (need (in_items h items (keyed k) ∷ s)) v
 enter_value h items k s [] g = absurd g
 enter_value h items k s (t ∷ w) g =
     ap (λ b. onward (pick b (Some (need (in_items h items (keyed_reference k) ∷ s))) (start (in_items h items (keyed k) ∷ s) t)) (λ n. run n w) (stop_short (in_items h items (keyed k) ∷ s) (t ∷ w)))
-      (test_false (is_ampersand t) t (punct mark.Ampersand) (ampersand_says t) refl g)
+    (test_false (is_ampersand t) t (punct mark.Ampersand) (ampersand_says t) refl g)
 
 pub enter_items : (h : Holder) (items : Items Nothing) (s : Stack) (v : List Symbol) → Starts v → run (at_items h items s) v ≡ run (need (in_items h items plain ∷ s)) v
 enter_items h items s [] g = absurd g
@@ -153,16 +153,16 @@ enter_yield s [] h = absurd h
 enter_yield s (t ∷ w) h =
     let shut : ends_yield (next t) ≡ false = yield_begins (next t) t (next_says t) h in
     ap (λ b. onward (pick b (goes_on (yield_nothing tt) s (next t)) (start (in_yield ∷ s) t)) (λ n. run n w) (stop_yield (is_last (t ∷ w) (lacks s)) s (t ∷ w))) shut
-      ∙ ap (λ b. onward (start (in_yield ∷ s) t) (λ n. run n w) (stop_yield b s (t ∷ w))) (last_false t w (lacks s) shut)
+    ∙ ap (λ b. onward (start (in_yield ∷ s) t) (λ n. run n w) (stop_yield b s (t ∷ w))) (last_false t w (lacks s) shut)
 
 -- ---- words that may end a form
 
 paren_weight : (t : Symbol) → weight t < 105 → is_paren t ≡ false
 paren_weight t h = weight_by (is_paren t) t (paren_says t) h
   where
-  weight_by : (b : Bool) (t : Symbol) → TestSays b t (punct mark.LeftParen) → weight t < 105 → b ≡ false
-  weight_by false t says h = refl
-  weight_by true t says h = let e : weight t ≡ 110 = ap weight says in absurd (omega arith)
+    weight_by : (b : Bool) (t : Symbol) → TestSays b t (punct mark.LeftParen) → weight t < 105 → b ≡ false
+    weight_by false t says h = refl
+    weight_by true t says h = let e : weight t ≡ 110 = ap weight says in absurd (omega arith)
 
 pub exit_done : (s : Stack) (w : List Symbol) → head_weight w < 105 → run (at_exit s) w ≡ run (have (exit tt) s) w
 exit_done s [] h = refl

@@ -10,3 +10,4 @@ pub mod Nesting
 pub mod Placed
 pub mod Sign
 pub mod Machine
+pub mod Laws

@@ -133,7 +133,7 @@ abbrev mutual
   noted_items notes at none = none
   noted_items notes at (and items lead e) =
       and (noted_items notes at items) (noted_lead notes (at + size_items items + comma_size items) lead)
-        (noted notes (at + size_items items + comma_size items + size_lead lead) e)
+      (noted notes (at + size_items items + comma_size items + size_lead lead) e)
   noted_items notes at (skip items) = skip (noted_items notes at items)
 
   pub noted_lead : {S T : Type 0} → Notes T → ℕ → Lead S → Lead T

@@ -1,22 +1,20 @@
 // Trees of scripts, and the grammar: which tokens spell which tree.
 #![tactic(auto)]
 
-pub mod first_path;
-
 mod declaration;
 mod expression;
+pub mod first_path;
+pub mod laws;
 mod operator;
 mod script;
 mod spot;
 mod statement;
 
 pub use declaration::{
-    BaseType, ClassConstant, ClassDecl, ClassModifier, FunctionDecl, InterfaceDecl, ClassMember, Method,
-    Modifier, ModifierWord, Param, Rule, Signature, TraitDecl, Type, Visibility,
+    BaseType, ClassConstant, ClassDecl, ClassMember, ClassModifier, FunctionDecl, InterfaceDecl,
+    Method, Modifier, ModifierWord, Param, Rule, Signature, TraitDecl, Type, Visibility,
 };
-pub use expression::{
-    Argument, Class, ClassStep, Expr, Item, Link, Member, Named, Piece, Suffix,
-};
+pub use expression::{Argument, Class, ClassStep, Expr, Item, Link, Member, Named, Piece, Suffix};
 pub use operator::{ArrayForm, Assign, Binary, Count, Magic, Prefix};
 pub use script::{Script, ScriptItem};
 pub use spot::{Name, Spot, Word};
