@@ -300,6 +300,8 @@ plugged_bare (f ∷ s) e h b =
     plugged_bare s (seated (is_call_at f) s (filled f e)) (seated_fits f s e h (inl q.0))
     (ap (λ c. seat_end c s (lacks s)) (sym calls) ∙ q.1)
 
-pub edge_small : (op : Binary) → (edge (binary_row op) ≤ 40) × (edge (binary_row op) ≤ suc (binary_row op).power) × (0 < edge (binary_row op)) × (edge (binary_row op) ≤ right (binary_row op))
-edge_small binary_op.Power = (omega arith, omega arith, omega arith, omega arith)
-edge_small _ = (omega arith, omega arith, omega arith, omega arith)
+pub edge_small : (op : Binary)
+    → (edge (binary_row op) ≤ 40) × (edge (binary_row op) ≤ suc (binary_row op).power) × (0 < edge (binary_row op)) × (edge (binary_row op) ≤ right (binary_row op))
+    × ((binary_row op).power ≤ edge (binary_row op))
+edge_small binary_op.Power = (omega arith, omega arith, omega arith, omega arith, omega arith)
+edge_small _ = (omega arith, omega arith, omega arith, omega arith, omega arith)

@@ -8,4 +8,6 @@ mod Trees
 mod Steps
 mod ReadBack
 mod Appended
+mod Notes
 mod LawProofs
+mod RulesAgree

@@ -6,7 +6,7 @@ use Rattle.php_ast.specs.Tree.{Tree}
 use Rattle.php_ast.specs.Spelling.{spell}
 use Rattle.php_ast.specs.Proper.{Proper, takes_arrow, ends_bare}
 use Rattle.php_ast.specs.View.{Note}
-use Rattle.php_ast.specs.Placed.{IsPlaced}
+use Rattle.php_ast.specs.Placed.{form_of, IsPlaced}
 use Rattle.php_ast.specs.Sign.{Next, other, next, weight_of, is_arrow, ends_yield}
 use Rattle.php_ast.specs.Machine.{Form, Outcome, read}
 
@@ -56,11 +56,10 @@ ReadsBack = (e : Form) (v : List Symbol) → Proper e → EndsBefore e v → rea
 abbrev pub OneForm : Type 0
 OneForm = (a b : Form) (w : List Symbol) → Spells a w → Spells b w → a ≡ b
 
--- A tree is spelled by tokens, the first of which is at a place, where the tree is proper, its spelling is theirs, and its notes
--- are about them.
+-- A tree is spelled by tokens, the first of which is at a place among all of them, where its form is and
+-- its notes are about them.
 pub record IsSpelled (tokens : List Token) (at : ℕ) (e : Tree Note) (w : List Token) : Type 0 where
-  pub proper : Proper e
-  pub spelled : spell e [] ≡ map symbol w
+  pub spelled : Spells (form_of e) (map symbol w)
   pub placed : IsPlaced tokens at e
 
 abbrev pub OneTree : Type 0

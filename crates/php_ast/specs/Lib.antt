@@ -11,3 +11,4 @@ pub mod Placed
 pub mod Sign
 pub mod Machine
 pub mod Laws
+pub mod Rules
