@@ -11,3 +11,4 @@ mod Appended
 mod Notes
 mod LawProofs
 mod RulesAgree
+mod StatementExamples

@@ -12,3 +12,9 @@ pub mod Sign
 pub mod Machine
 pub mod Laws
 pub mod Rules
+pub mod Statements
+pub mod StatementSpelling
+pub mod ProperStatement
+pub mod Declarations
+pub mod DeclarationSpelling
+pub mod StatementView
