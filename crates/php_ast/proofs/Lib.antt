@@ -12,3 +12,4 @@ mod Notes
 mod LawProofs
 mod RulesAgree
 mod StatementExamples
+mod TraceSteps

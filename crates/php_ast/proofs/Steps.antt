@@ -45,7 +45,7 @@ after_low e s h = low_by (is_call e) e s h
 
 -- ---- behind an expression
 
-goes_on_draws : (d : Draw) (e : Form) (s : Stack) → level s ≤ draw_weight d → draw_weight d < ends e → goes_on e s (draws d) ≡ Some (opened d e s)
+pub goes_on_draws : (d : Draw) (e : Form) (s : Stack) → level s ≤ draw_weight d → draw_weight d < ends e → goes_on e s (draws d) ≡ Some (opened d e s)
 goes_on_draws d e s near low =
     ap (drawn (draws d)) (settle_none false (draw_weight d) s e (omega (arith, top_level s)))
     ∙ ap (λ b. provided b (opened d e s)) (lt-ltb (draw_weight d) (ends e) low)
@@ -157,7 +157,7 @@ enter_yield s (t ∷ w) h =
 
 -- ---- words that may end a form
 
-paren_weight : (t : Symbol) → weight t < 105 → is_paren t ≡ false
+pub paren_weight : (t : Symbol) → weight t < 105 → is_paren t ≡ false
 paren_weight t h = weight_by (is_paren t) t (paren_says t) h
   where
     weight_by : (b : Bool) (t : Symbol) → TestSays b t (punct mark.LeftParen) → weight t < 105 → b ≡ false
@@ -169,7 +169,7 @@ exit_done s [] h = refl
 exit_done s (t ∷ w) h =
     ap (λ b. onward (pick b (Some (at_exit_paren s)) (goes_on (exit tt) s (next t))) (λ n. run n w) (stop_whole (exit tt) s (t ∷ w))) (paren_weight t h)
 
-class_by : (x : Next) (class : Class Nothing) (s : Stack) → weight_of x < 80 → class_step class s x ≡ goes_on (new tt class) s x
+pub class_by : (x : Next) (class : Class Nothing) (s : Stack) → weight_of x < 80 → class_step class s x ≡ goes_on (new tt class) s x
 class_by (draws calls) class s h = absurd (omega arith)
 class_by (draws indexes) class s h = absurd (omega arith)
 class_by (draws (selects arrow)) class s h = absurd (omega arith)
@@ -181,7 +181,7 @@ pub class_done : (class : Class Nothing) (s : Stack) (w : List Symbol) → head_
 class_done class s [] h = refl
 class_done class s (t ∷ w) h = ap (λ o. onward o (λ n. run n w) (stop_whole (new tt class) s (t ∷ w))) (class_by (next t) class s h)
 
-static_by : (x : Next) (l : Form) (s : Stack) → weight_of x < 80 → static_step (in_instance l ∷ s) x ≡ goes_on (static_instance l tt) s x
+pub static_by : (x : Next) (l : Form) (s : Stack) → weight_of x < 80 → static_step (in_instance l ∷ s) x ≡ goes_on (static_instance l tt) s x
 static_by (draws (selects colons)) l s h = absurd (omega arith)
 static_by _ l s h = refl
 

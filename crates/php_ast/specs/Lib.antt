@@ -10,6 +10,7 @@ pub mod Nesting
 pub mod Placed
 pub mod Sign
 pub mod Machine
+pub mod Depth
 pub mod Laws
 pub mod Rules
 pub mod Statements
