@@ -1,5 +1,5 @@
 -- Examples of spelling, of proper trees, of nesting and of reading, each by computing.
-use Rattle.std.proofs.Common.{◌≡◌, ◌<◌, ℕ, ℤ, pos, List, [], ◌∷◌, refl, arith}
+use Rattle.std.proofs.Common.{◌≡◌, ℕ, pos, [], ◌∷◌, refl, arith}
 use Rattle.php_lex.specs.declared.kind.Keyword.TheVariants as word
 use Rattle.php_lex.specs.declared.kind.Punct.TheVariants as mark
 use Rattle.php_ast.specs.declared.operator.Binary.TheVariants as op
@@ -8,7 +8,7 @@ use Rattle.php_ast.specs.declared.operator.Assign.TheVariants as set
 use Rattle.php_ast.specs.declared.operator.ArrayForm.TheVariants as form
 use Rattle.php_ast.specs.Symbol as symbol
 use Rattle.php_ast.specs.Symbol.{Symbol, keyword, punct}
-use Rattle.php_ast.specs.Tree.{append, instance, variable, int, name, parentheses, array, thin, by_value, named, held, leaf, template, enclosed, listed, index, selected, call, new, new_with, prefix, binary, choice, assign, yield_value, yield_pair, yield_nothing, none, and, skip, plain, keyed, no_piece, bytes, value, class_name, class_found, from, step_property, step_index}
+use Rattle.php_ast.specs.Tree.{append, instance, variable, int, name, parentheses, array, thin, by_value, named, leaf, template, enclosed, listed, index, selected, call, new, new_with, prefix, binary, choice, assign, yield_value, yield_pair, yield_nothing, none, and, skip, plain, keyed, no_piece, bytes, value, class_name, class_found, from, step_property, step_index}
 use Rattle.php_ast.specs.Spelling.{spell}
 use Rattle.php_ast.specs.Proper.{Proper}
 use Rattle.php_ast.specs.Nesting.{nests}

@@ -1,19 +1,16 @@
 -- Completing open forms: a proper tree in sound forms gives a proper tree, whose spelling is theirs.
-use Rattle.std.proofs.Common.{◌≡◌, ◌≤◌, ◌<◌, ◌⊎◌, inl, inr, ℕ, suc, Bool, true, false, min, List, [], ◌∷◌, refl, sym, ◌∙◌, ap, subst, arith}
-use Rattle.php_lex.specs.declared.kind.Keyword.TheVariants as word
-use Rattle.php_lex.specs.declared.kind.Punct.TheVariants as mark
+use Rattle.std.proofs.Common.{◌≡◌, ◌≤◌, ◌<◌, ◌⊎◌, inl, inr, suc, Bool, true, false, List, [], ◌∷◌, refl, sym, ◌∙◌, ap, subst, arith}
 use Rattle.php_ast.specs.declared.operator.Binary.{Binary}
 use Rattle.php_ast.specs.declared.operator.Binary.TheVariants as binary_op
 use Rattle.php_ast.specs.declared.operator.Prefix.{Prefix}
 use Rattle.php_ast.specs.declared.operator.Prefix.TheVariants as prefix_op
-use Rattle.php_ast.specs.declared.operator.ArrayForm.TheVariants as form
-use Rattle.php_ast.specs.Symbol.{Symbol, keyword, punct}
-use Rattle.php_ast.specs.Tree.{Tree, leaf, template, enclosed, listed, exit, exit_empty, static_member, append, index, selected, computed, call, new, new_with, prefix, counted, binary, instance, static_instance, choice, short_choice, assign, yield_nothing, yield_value, yield_pair, Listing, array, isset, Items, none, and, skip, Lead, plain, reference, spread, keyed, keyed_reference}
+use Rattle.php_ast.specs.Symbol.{Symbol}
+use Rattle.php_ast.specs.Tree.{array, isset, Items, and, Lead, plain, reference, spread, keyed, keyed_reference}
 use Rattle.php_ast.specs.Spelling.{spell, spell_items}
-use Rattle.php_ast.specs.Power.{binary_row, choice_row, instance_row, yield_power, prefix_power}
-use Rattle.php_ast.specs.Proper.{free, top, right, edge, power, ends, takes_arrow, ends_bare, is_call, IsOperand, AreArguments, AreArrayItems, AreValues, FitsListing, Proper, AreProperItems}
-use Rattle.php_ast.specs.Machine.{Nothing, Form, Holder, of_call, of_new, of_list, Frame, in_enclosed, in_items, in_index, in_computed, in_step, in_part, in_then, in_else, in_short, in_prefix, in_binary, in_instance, in_assign, in_yield, in_yield_value, Stack, level_at, level, closed_with, has_paren, holder_closing, is_array, may_end, ended_items, filled, end_at, is_call_at, seated, seat_end, plug, lacks, holder_front, front_at, front}
-use Rattle.php_ast.proofs.Sound.{SoundHolder, SoundList, SoundEnd, SoundLead, SoundItems, SoundAt, power_at, Sound, Seats, Fits, Closed}
+use Rattle.php_ast.specs.Power.{binary_row, prefix_power}
+use Rattle.php_ast.specs.Proper.{free, top, right, edge, power, ends, ends_bare, is_call, Proper, AreProperItems}
+use Rattle.php_ast.specs.Machine.{Nothing, Form, Holder, of_call, of_new, of_list, Frame, in_enclosed, in_items, in_index, in_computed, in_step, in_part, in_then, in_else, in_short, in_prefix, in_binary, in_instance, in_assign, in_yield, in_yield_value, Stack, level_at, level, closed_with, holder_closing, filled, end_at, is_call_at, seated, seat_end, plug, lacks, holder_front, front_at, front}
+use Rattle.php_ast.proofs.Sound.{SoundHolder, SoundList, SoundEnd, SoundLead, SoundAt, power_at, Sound, Seats, Fits, Closed}
 
 -- ---- the table of powers
 

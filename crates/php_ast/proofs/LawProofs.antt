@@ -1,5 +1,5 @@
 -- The laws of the grammar of expressions.
-use Rattle.std.proofs.Common.{◌≡◌, ◌≤◌, ◌<◌, inl, ℕ, suc, ◌+◌, Bool, true, false, Option, Some, None, List, [], ◌∷◌, ◌++◌, map, length, refl, sym, ◌∙◌, ap, subst, arith, append_assoc, length-append}
+use Rattle.std.proofs.Common.{◌≡◌, ◌≤◌, inl, ℕ, Bool, true, false, Option, Some, None, List, [], ◌∷◌, ◌++◌, map, length, refl, sym, ◌∙◌, ap, subst, arith, append_assoc, length-append}
 use Rattle.php_lex.specs.declared.kind.Punct.TheVariants as mark
 use Rattle.php_ast.specs.Symbol.{Symbol, symbol, punct}
 use Rattle.php_lex.specs.Token.{Token}
@@ -7,14 +7,17 @@ use Rattle.php_ast.specs.Tree.{Tree}
 use Rattle.php_ast.specs.View.{Note}
 use Rattle.php_ast.specs.Placed.{noted, no_notes, form_of, notes_of}
 use Rattle.php_ast.specs.Spelling.{spell}
-use Rattle.php_ast.specs.Proper.{Proper, ends}
-use Rattle.php_ast.specs.Sign.{Next, draws, closes, other, next, weight_of, draw_weight, ends_yield}
-use Rattle.php_ast.specs.Machine.{Form, Frame, in_instance, Stack, Mode, need, have, have_call, due_enclosed, due_listed, at_items, at_value, at_exit, at_exit_paren, at_static, at_static_colons, at_template, at_index, at_arrow, at_new, at_class, at_step, at_question, at_assign, at_yield, lacks, after, goes_on, step, Outcome, stop_static, is_last, stop_yield, stop, onward, run, read}
+use Rattle.php_ast.specs.Proper.{Proper}
+use Rattle.php_ast.specs.Sign.{Next, draws, closes, other, next, weight_of}
+use Rattle.php_ast.specs.Machine.{Form, in_instance, Stack, Mode, need, have, have_call, due_enclosed, due_listed, at_static, at_yield, lacks, goes_on, step, stop_static, is_last, stop_yield, stop, onward, run, read}
 use Rattle.php_ast.specs.Laws.{Spells, IsBegun, BeginsWith, EndsBefore, head_next, IsSpelled}
 use Rattle.php_ast.proofs.Soundness.{Begins, run_begins}
 use Rattle.php_ast.proofs.Trees.{ends_some}
 use Rattle.php_ast.proofs.Steps.{after_low}
-use Rattle.php_ast.proofs.ReadBack.{Follows, StandsBare, draw_some, read_back}
+use Rattle.php_ast.proofs.ReadBack.{Follows, draw_some, read_back}
+use Rattle.php_ast.specs.Nesting.{nests}
+use Rattle.php_ast.specs.Depth.{nesting, onto, trace}
+use Rattle.php_ast.proofs.TraceBack.{trace_back}
 use Rattle.php_ast.proofs.Appended.{spell_append}
 use Rattle.php_ast.proofs.Notes.{again}
 
@@ -128,3 +131,14 @@ pub one_tree : (tokens : List Token) (at : ℕ) (w : List Token) (a b : Tree Not
 one_tree tokens at w a b p q =
     let same : form_of a ≡ form_of b = one_form (form_of a) (form_of b) (map symbol w) p.spelled q.spelled in
     sym p.placed ∙ sym (again no_notes (notes_of tokens) 0 at a) ∙ ap (noted (notes_of tokens) at) same ∙ again no_notes (notes_of tokens) 0 at b ∙ q.placed
+
+-- ---- nesting
+
+counts_nothing : (e : Form) (v : List Symbol) → weight_of (head_next v) ≡ 0 → trace (have e []) v ≡ []
+counts_nothing e [] h = refl
+counts_nothing e (t ∷ w) h = ap (λ o. onto o (nesting (have e []) t) (λ n. trace n w)) (goes_nowhere (next t) e h)
+
+pub nesting_agrees : (e : Form) (v : List Symbol) → Proper e → EndsBefore e v → trace (need []) (spell e v) ≡ nests e 0 []
+nesting_agrees e v p h =
+    trace_back e [] v p (omega arith) (ends_follows e v h)
+    ∙ ap (nests e 0) (ap (λ m. trace m v) (after_low e [] (omega arith)) ∙ counts_nothing e v h.draws_nothing)

@@ -13,3 +13,4 @@ mod LawProofs
 mod RulesAgree
 mod StatementExamples
 mod TraceSteps
+mod TraceBack

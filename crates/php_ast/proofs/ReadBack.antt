@@ -1,5 +1,5 @@
 -- The spelling of a proper tree is read as that tree, whatever follows that doesn't go on with it.
-use Rattle.std.proofs.Common.{◌≡◌, ◌≤◌, ◌<◌, ◌⊎◌, inl, inr, ℕ, suc, Bool, true, false, min, Option, Some, None, List, [], ◌∷◌, refl, sym, ◌∙◌, ap, subst, arith}
+use Rattle.std.proofs.Common.{◌≡◌, ◌≤◌, ◌<◌, ◌⊎◌, inl, inr, Bool, true, false, Option, Some, None, List, [], ◌∷◌, refl, sym, ◌∙◌, ap, subst, arith}
 use Rattle.php_lex.specs.declared.kind.Keyword.TheVariants as word
 use Rattle.php_lex.specs.declared.kind.Punct.TheVariants as mark
 use Rattle.php_ast.specs.declared.operator.Binary.{Binary}
@@ -9,19 +9,19 @@ use Rattle.php_ast.specs.declared.operator.Assign.TheVariants as setting
 use Rattle.php_ast.specs.declared.operator.ArrayForm.TheVariants as form
 use Rattle.php_ast.specs.Symbol as symbol
 use Rattle.php_ast.specs.Symbol.{Symbol, keyword, punct}
-use Rattle.php_ast.specs.Tree.{Leaf, Enclosure, parentheses, emptiness, exiting, Listing, array, isset, Arrow, thin, colons, by_value, by_reference, Member, named, reserved, held}
-use Rattle.php_ast.specs.Tree.{Tree, leaf, template, enclosed, listed, exit, exit_empty, static_member, append, index, selected, computed, call, new, new_with, prefix, counted, binary, instance, static_instance, choice, short_choice, assign, yield_nothing, yield_value, yield_pair}
+use Rattle.php_ast.specs.Tree.{parentheses, emptiness, exiting, array, isset, Arrow, thin, colons, by_value, by_reference, Member, named, reserved, held}
+use Rattle.php_ast.specs.Tree.{leaf, template, enclosed, listed, exit, exit_empty, static_member, append, index, selected, computed, call, new, new_with, prefix, counted, binary, instance, static_instance, choice, short_choice, assign, yield_nothing, yield_value, yield_pair}
 use Rattle.php_ast.specs.Tree.{Items, none, and, skip, Lead, plain, reference, spread, keyed, keyed_reference, Pieces, no_piece, bytes, value, Class, class_name, class_static, class_found, Steps, from, step_property, step_index}
 use Rattle.php_ast.specs.Spelling.{spell, spell_items, spell_lead, spell_pieces, spell_class, spell_steps, comma, member_symbol}
 use Rattle.php_ast.specs.Power.{binary_row, choice_row, instance_row}
-use Rattle.php_ast.specs.Proper.{free, top, power, ends, takes_arrow, ends_bare, is_call, IsWord, IsKey, Proper, AreArguments, AreArrayItems, AreValues, AreProperItems, IsProperLead, AreProperPieces, IsProperClass, AreProperSteps, IsOperand, HasSuffix, IsCallable, FitsListing}
-use Rattle.php_ast.specs.Sign.{Draw, goes, checks, asks, sets, counts, calls, indexes, selects, Next, draws, closes, other, next, draw_weight, weight_of, is_arrow, ends_yield, word_of, member_of}
-use Rattle.php_ast.specs.Machine.{Nothing, Form, Holder, of_call, of_new, of_list, Frame, in_enclosed, in_items, in_index, in_computed, in_step, in_part, in_then, in_else, in_short, in_prefix, in_binary, in_instance, in_assign, in_yield, in_yield_value, Stack, Mode, need, have, at_items, at_value, at_static, at_static_colons, at_template, at_index, at_arrow, at_new, at_class, at_step, at_question, at_assign, at_yield, level_at, level, ends_at, filled, seat_end, lacks, end_at, closed_with, has_paren, holder_closing, is_array, is_arguments, after_by, after, assigning, with_member, goes_on, pick, start, step, stop_whole, stop_yield, is_last, stop, onward, run}
-use Rattle.php_ast.proofs.Signs.{draw_symbol, next_draw, member_back, word_back}
-use Rattle.php_ast.proofs.Sound.{SoundHolder, SoundList, SoundEnd, SoundLead}
+use Rattle.php_ast.specs.Proper.{free, power, ends, takes_arrow, ends_bare, IsWord, Proper, AreProperItems, IsProperLead, AreProperPieces, IsProperClass, AreProperSteps, HasSuffix, IsCallable}
+use Rattle.php_ast.specs.Sign.{Draw, goes, checks, asks, sets, counts, calls, indexes, selects, next, draw_weight, weight_of, is_arrow, ends_yield}
+use Rattle.php_ast.specs.Machine.{Nothing, Form, Holder, of_call, of_new, of_list, Frame, in_enclosed, in_items, in_index, in_computed, in_step, in_part, in_then, in_else, in_short, in_prefix, in_binary, in_instance, in_assign, in_yield, in_yield_value, Stack, Mode, need, have, at_items, at_value, at_static_colons, at_template, at_arrow, at_new, at_class, at_step, at_yield, level_at, level, ends_at, filled, seat_end, lacks, end_at, closed_with, holder_closing, is_array, after_by, after, assigning, goes_on, pick, start, stop_whole, stop_yield, is_last, onward, run}
+use Rattle.php_ast.proofs.Signs.{draw_symbol, next_draw}
+use Rattle.php_ast.proofs.Sound.{SoundList, SoundEnd, SoundLead}
 use Rattle.php_ast.proofs.Fill.{binary_small, edge_small, prefix_small, level_top, endless, endless_call}
 use Rattle.php_ast.proofs.Trees.{ends_some, bare_ends, left_power, IsOpen, open_by_ends, operand_ends, Starts, starts}
-use Rattle.php_ast.proofs.Steps.{moves, head_next, head_weight, after_low, suffix_on, operator_on, ended_step, ended, prefix_on, yield_on, leaf_on, enter_index, enter_exit, enter_then, enter_assign, enter_value, enter_items, enter_yield, exit_done, class_done, static_done}
+use Rattle.php_ast.proofs.Steps.{head_next, head_weight, after_low, suffix_on, operator_on, ended_step, ended, prefix_on, yield_on, leaf_on, enter_index, enter_exit, enter_then, enter_assign, enter_value, enter_items, enter_yield, exit_done, class_done, static_done}
 
 -- ---- what may follow a tree
 
@@ -54,18 +54,18 @@ draw_some indexes = omega arith
 draw_some (selects arrow) = omega arith
 
 -- what goes on with the tree itself
-follows_draw : (d : Draw) (e : Form) (s : Stack) (w : List Symbol) → draw_weight d < ends e → Follows e s (draw_symbol d ∷ w)
+pub follows_draw : (d : Draw) (e : Form) (s : Stack) (w : List Symbol) → draw_weight d < ends e → Follows e s (draw_symbol d ∷ w)
 follows_draw d e s w h = record {
   low = subst (λ x. weight_of x < ends e) (sym (next_draw d)) h;
   arrow = λ a. let n : is_arrow (next (draw_symbol d)) ≡ false = ap is_arrow (next_draw d) in cc;
   bare = λ b. absurd (omega (arith, bare_ends e b, draw_some d));
 }
 
-abbrev yield_frame : Frame → Bool
+abbrev pub yield_frame : Frame → Bool
 yield_frame in_yield = true
 yield_frame _ = false
 
-ends_at_level : (b : Bool) (f : Frame) → yield_frame f ≡ false → ends_at b f ≡ level_at f
+pub ends_at_level : (b : Bool) (f : Frame) → yield_frame f ≡ false → ends_at b f ≡ level_at f
 ends_at_level false f h = refl
 ends_at_level true in_yield h = cc
 ends_at_level true (in_enclosed enclosure) h = refl
@@ -85,7 +85,7 @@ bare_inside f s e w on short h = record {
 }
 
 -- what may follow a form may follow the tree at its end
-inside : (f : Frame) (s : Stack) (e : Form) (w : List Symbol) → 0 < level_at f → head_weight w < ends_at (is_arrow (head_next w)) f → head_weight w < ends e
+pub inside : (f : Frame) (s : Stack) (e : Form) (w : List Symbol) → 0 < level_at f → head_weight w < ends_at (is_arrow (head_next w)) f → head_weight w < ends e
     → (is_arrow (head_next w) ≡ true → takes_arrow e ≡ false) → (ends_bare e ≡ true → ends_bare (filled f e) ≡ true) → Follows (filled f e) s w → Follows e (f ∷ s) w
 inside f s e w on short low arrow bare h = record { low = low; arrow = arrow; bare = λ b. bare_inside f s e w on short (h.bare (bare b)) }
 
@@ -94,7 +94,7 @@ close_by : (f : Frame) (s : Stack) (e : Form) (w : List Symbol) → 0 < level_at
     → run (after e (f ∷ s)) w ≡ run (have (filled f e) s) w
 close_by f s e w on small short = ap (λ m. run m w) (after_low e (f ∷ s) small) ∙ ended f s e w on short
 
-not_true : (b : Bool) → (b ≡ true → true ≡ false) → b ≡ false
+pub not_true : (b : Bool) → (b ≡ true → true ≡ false) → b ≡ false
 not_true false h = refl
 not_true true h = h refl
 
@@ -143,21 +143,21 @@ bare_done s (t ∷ w) h =
 
 -- ---- what follows a tree between brackets
 
-follows_paren : (f : Frame) (s : Stack) (e : Form) (w : List Symbol) → IsGoing (goes_on e (f ∷ s) (next (punct mark.RightParen))) → Follows e (f ∷ s) (punct mark.RightParen ∷ w)
+pub follows_paren : (f : Frame) (s : Stack) (e : Form) (w : List Symbol) → IsGoing (goes_on e (f ∷ s) (next (punct mark.RightParen))) → Follows e (f ∷ s) (punct mark.RightParen ∷ w)
 follows_paren f s e w g = record { low = ends_some e; arrow = λ a. cc; bare = λ b. record { ends_it = refl; goes = inr g } }
 
-follows_bracket : (f : Frame) (s : Stack) (e : Form) (w : List Symbol) → IsGoing (goes_on e (f ∷ s) (next (punct mark.RightBracket))) → Follows e (f ∷ s) (punct mark.RightBracket ∷ w)
+pub follows_bracket : (f : Frame) (s : Stack) (e : Form) (w : List Symbol) → IsGoing (goes_on e (f ∷ s) (next (punct mark.RightBracket))) → Follows e (f ∷ s) (punct mark.RightBracket ∷ w)
 follows_bracket f s e w g = record { low = ends_some e; arrow = λ a. cc; bare = λ b. record { ends_it = refl; goes = inr g } }
 
-follows_comma : (h : Holder) (items : Items Nothing) (lead : Lead Nothing) (s : Stack) (e : Form) (w : List Symbol) → Follows e (in_items h items lead ∷ s) (punct mark.Comma ∷ w)
+pub follows_comma : (h : Holder) (items : Items Nothing) (lead : Lead Nothing) (s : Stack) (e : Form) (w : List Symbol) → Follows e (in_items h items lead ∷ s) (punct mark.Comma ∷ w)
 follows_comma h items lead s e w = record { low = ends_some e; arrow = λ a. cc; bare = λ b. record { ends_it = refl; goes = inr tt } }
 
-follows_shut : (t : Symbol) (s : Stack) (e : Form) (w : List Symbol) → weight_of (next t) ≡ 0 → (is_arrow (next t) ≡ true → takes_arrow e ≡ false) → ends_bare e ≡ false → Follows e s (t ∷ w)
+pub follows_shut : (t : Symbol) (s : Stack) (e : Form) (w : List Symbol) → weight_of (next t) ≡ 0 → (is_arrow (next t) ≡ true → takes_arrow e ≡ false) → ends_bare e ≡ false → Follows e s (t ∷ w)
 follows_shut t s e w is a b = record { low = omega (arith, ends_some e); arrow = a; bare = λ c. cc }
 
 -- ---- lists
 
-list_lead : (h : Holder) (items : Items Nothing) (lead : Lead Nothing) (e : Form) → SoundList h (and items lead e) → SoundList h items × SoundLead h lead
+pub list_lead : (h : Holder) (items : Items Nothing) (lead : Lead Nothing) (e : Form) → SoundList h (and items lead e) → SoundList h items × SoundLead h lead
 list_lead (of_call f) items plain e s = (s, tt)
 list_lead (of_call f) items spread e s = (s, tt)
 list_lead (of_call f) items reference e s = absurd s
@@ -179,13 +179,13 @@ list_lead (of_list isset) items reference e s = absurd s
 list_lead (of_list isset) items (keyed k) e s = absurd s
 list_lead (of_list isset) items (keyed_reference k) e s = absurd s
 
-list_skip : (h : Holder) (items : Items Nothing) → SoundList h (skip items) → (is_array h ≡ true) × SoundList h items
+pub list_skip : (h : Holder) (items : Items Nothing) → SoundList h (skip items) → (is_array h ≡ true) × SoundList h items
 list_skip (of_call f) items s = absurd s
 list_skip (of_new class) items s = absurd s
 list_skip (of_list (array form)) items s = (refl, s)
 list_skip (of_list isset) items s = absurd s
 
-follows_close : (h : Holder) (items : Items Nothing) (lead : Lead Nothing) (s : Stack) (e : Form) (w : List Symbol) → Follows e (in_items h items lead ∷ s) (holder_closing h ∷ w)
+pub follows_close : (h : Holder) (items : Items Nothing) (lead : Lead Nothing) (s : Stack) (e : Form) (w : List Symbol) → Follows e (in_items h items lead ∷ s) (holder_closing h ∷ w)
 follows_close (of_call f) items lead s e w = follows_paren (in_items (of_call f) items lead) s e w tt
 follows_close (of_new class) items lead s e w = follows_paren (in_items (of_new class) items lead) s e w tt
 follows_close (of_list (array form.Brackets)) items lead s e w = follows_bracket (in_items (of_list (array form.Brackets)) items lead) s e w tt
@@ -243,7 +243,7 @@ spread_on (of_new class) items s w h = refl
 spread_on (of_list (array form)) items s w h = absurd h
 spread_on (of_list isset) items s w h = absurd h
 
-keyed_array : (h : Holder) (k : Form) → SoundLead h (keyed k) ⊎ SoundLead h (keyed_reference k) → is_array h ≡ true
+pub keyed_array : (h : Holder) (k : Form) → SoundLead h (keyed k) ⊎ SoundLead h (keyed_reference k) → is_array h ≡ true
 keyed_array (of_call f) k h = elim h [ inl x ↦ absurd x | inr x ↦ absurd x ]
 keyed_array (of_new class) k h = elim h [ inl x ↦ absurd x | inr x ↦ absurd x ]
 keyed_array (of_list (array form)) k h = refl
@@ -262,16 +262,16 @@ key_on (of_list isset) items k s w h = cc
 open_suffix : (d : Draw) (e : Form) → 90 < draw_weight d → draw_weight d < ends e → IsOpen e
 open_suffix d e tight low = open_by_ends e (omega arith)
 
-suffix_low : (e : Form) → HasSuffix e → 100 < ends e
+pub suffix_low : (e : Form) → HasSuffix e → 100 < ends e
 suffix_low e h = omega (arith, (open_by_ends e (omega arith)).more h)
 
-call_low : (e : Form) → IsCallable e → 110 < ends e
+pub call_low : (e : Form) → IsCallable e → 110 < ends e
 call_low e h = omega (arith, (open_by_ends e (omega arith)).most h)
 
-operand_near : (e : Form) (s : Stack) → free < ends e → level s ≤ power e
+pub operand_near : (e : Form) (s : Stack) → free < ends e → level s ≤ power e
 operand_near e s h = omega (arith, level_top s, (open_by_ends e h).power_is)
 
-operator_small : (op : Binary) → (binary_row op).power < 90
+pub operator_small : (op : Binary) → (binary_row op).power < 90
 operator_small op = omega (arith, binary_small op)
 
 mutual

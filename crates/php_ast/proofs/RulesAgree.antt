@@ -1,13 +1,12 @@
 -- One number says what the list of the powers at the end of a tree says.
-use Rattle.std.proofs.Common.{◌≡◌, ◌≢◌, ◌≤◌, ◌<◌, ◌⊎◌, inl, inr, ◌↔◌, ◌==◌, ℕ, suc, Bool, true, false, min, if◌then◌else◌, List, [], ◌∷◌, refl, sym, ◌∙◌, ap, subst, arith}
+use Rattle.std.proofs.Common.{◌≡◌, ◌≢◌, ◌≤◌, ◌<◌, inl, inr, ◌↔◌, ◌==◌, ℕ, suc, Bool, true, false, if◌then◌else◌, refl, sym, ◌∙◌, ap, subst, arith}
 use Rattle.std.proofs.lemmas.Bool.Decides.{eqb_tells}
 use Rattle.php_ast.specs.declared.operator.Binary.{Binary}
-use Rattle.php_ast.specs.declared.operator.Binary.TheVariants as binary_op
-use Rattle.php_ast.specs.Tree.{Tree, prefix, counted, binary, instance, static_instance, choice, short_choice, assign, yield_nothing, yield_value, yield_pair, new, new_with, exit, leaf}
-use Rattle.php_ast.specs.Power.{Grouping, to_left, to_right, ungrouped, Row, binary_row, choice_row, instance_row, assign_row, prefix_power, yield_power}
-use Rattle.php_ast.specs.Proper.{free, power, ends, edge, edge_of, right, right_of, FitsLeft, FitsRight, Proper}
+use Rattle.php_ast.specs.Tree.{prefix, counted, binary, instance, static_instance, choice, short_choice, assign, yield_nothing, yield_value, yield_pair, leaf}
+use Rattle.php_ast.specs.Power.{Grouping, to_left, to_right, ungrouped, binary_row, prefix_power}
+use Rattle.php_ast.specs.Proper.{power, ends, edge, edge_of, right_of, Proper}
 use Rattle.php_ast.specs.Machine.{Form}
-use Rattle.php_ast.specs.Rules.{ending_powers, AllAbove, IsFree, is_left, same_run, chosen, operand_before, RuleLeft, RuleRight, RulePrefix, Agrees, PowersAgree}
+use Rattle.php_ast.specs.Rules.{ending_powers, AllAbove, IsFree, is_left, chosen, operand_before, RuleRight, RulePrefix, PowersAgree}
 use Rattle.php_ast.proofs.Fill.{prefix_small, binary_small, edge_small}
 
 -- ---- a tree of a higher power

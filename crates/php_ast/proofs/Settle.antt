@@ -1,13 +1,13 @@
 -- The forms that a symbol ends.
-use Rattle.std.proofs.Common.{◌≡◌, ◌≤◌, ◌<◌, ◌⊎◌, inl, inr, ℕ, suc, Bool, true, false, min, List, [], ◌∷◌, refl, sym, ◌∙◌, ap, subst, arith, ltb-true, ltb-false}
+use Rattle.std.proofs.Common.{◌≡◌, ◌≤◌, ◌<◌, inl, ℕ, Bool, true, false, List, [], ◌∷◌, refl, sym, ◌∙◌, ap, subst, arith, ltb-true, ltb-false}
 use Rattle.std.specs.Prelude.{nat_lt}
-use Rattle.std.proofs.lemmas.Bool.{lt-ltb, le-ltb}
+use Rattle.std.proofs.lemmas.Bool.{le-ltb}
 use Rattle.php_ast.specs.Symbol.{Symbol}
 use Rattle.php_ast.specs.Tree.{prefix, counted, binary, instance, static_instance, choice, short_choice, assign, yield_nothing, yield_value, yield_pair}
 use Rattle.php_ast.specs.Spelling.{spell}
 use Rattle.php_ast.specs.Proper.{takes_arrow, ends_bare, power}
-use Rattle.php_ast.specs.Machine.{Form, Frame, in_enclosed, in_items, in_index, in_computed, in_step, in_part, in_then, in_else, in_short, in_prefix, in_binary, in_instance, in_assign, in_yield, in_yield_value, Stack, level_at, level, ends_at, filled, front_at, front, Due, pick, settle}
-use Rattle.php_ast.proofs.Sound.{Sound, Fits, Closed, power_at}
+use Rattle.php_ast.specs.Machine.{Form, Frame, in_enclosed, in_items, in_index, in_computed, in_step, in_part, in_then, in_instance, in_yield, Stack, level_at, level, ends_at, filled, front_at, front, Due, pick, settle}
+use Rattle.php_ast.proofs.Sound.{Fits}
 use Rattle.php_ast.proofs.Fill.{filled_proper, filled_power, filled_spells, endless, endless_call, call_seat, seats_by, binary_small}
 
 abbrev pub ends_top : Bool → Stack → ℕ

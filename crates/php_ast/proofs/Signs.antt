@@ -23,7 +23,7 @@ use Rattle.php_ast.specs.Tree as tree
 use Rattle.php_ast.specs.Tree.{Leaf, Enclosure, parentheses, emptiness, exiting, Listing, array, isset, thin, colons, Member, named, reserved, held}
 use Rattle.php_ast.specs.Spelling.{leaf_symbol, member_symbol, arrow_symbol}
 use Rattle.php_ast.specs.Proper.{IsWord}
-use Rattle.php_ast.specs.Sign.{First, is_leaf, is_static, is_quote, is_exit, is_new, is_yield, encloses, lists, operates, nothing, first, first_keyword, first_punct, first_cast, Draw, goes, checks, asks, sets, counts, calls, indexes, selects, Closer, paren, bracket, brace, comma, double_arrow, colon, semicolon, part_end, Next, draws, closes, other, next, next_keyword, next_punct, word_of, member_of, Mark, refers, spreads, ends_item, begins, mark_of, item_mark, is_ampersand, is_paren, is_right_paren, is_right_bracket, is_left_brace, is_colon}
+use Rattle.php_ast.specs.Sign.{First, is_leaf, is_static, is_quote, is_exit, is_new, is_yield, encloses, lists, operates, nothing, first, first_keyword, first_punct, first_cast, Draw, goes, checks, asks, sets, counts, calls, indexes, selects, Closer, paren, bracket, brace, comma, double_arrow, colon, semicolon, part_end, Next, draws, closes, other, next, next_keyword, next_punct, word_of, member_of, Mark, refers, spreads, ends_item, begins, item_mark, is_ampersand, is_paren, is_right_paren, is_right_bracket, is_left_brace, is_colon}
 
 -- ---- the symbol of each sign
 

@@ -1,14 +1,13 @@
 -- What holds of the open forms and of a mode at any time, and the symbols that led to a mode.
-use Rattle.std.proofs.Common.{◌≡◌, ◌≤◌, ◌<◌, ℕ, Bool, true, false, List, [], ◌∷◌}
+use Rattle.std.proofs.Common.{◌≡◌, ◌≤◌, ◌<◌, ℕ, true, false, List, [], ◌∷◌}
 use Rattle.php_lex.specs.declared.kind.Keyword.TheVariants as word
 use Rattle.php_lex.specs.declared.kind.Punct.TheVariants as mark
-use Rattle.php_ast.specs.declared.operator.ArrayForm.TheVariants as form
 use Rattle.php_ast.specs.Symbol as symbol
 use Rattle.php_ast.specs.Symbol.{Symbol, keyword, punct}
-use Rattle.php_ast.specs.Tree.{Tree, Enclosure, parentheses, emptiness, exiting, Listing, array, isset, Items, none, and, skip, Lead, plain, reference, spread, keyed, keyed_reference}
+use Rattle.php_ast.specs.Tree.{parentheses, array, isset, Items, Lead, plain, spread}
 use Rattle.php_ast.specs.Spelling.{spell, spell_items, spell_pieces, spell_class, spell_steps, comma, arrow_symbol}
 use Rattle.php_ast.specs.Power.{binary_row, choice_row, instance_row, yield_power}
-use Rattle.php_ast.specs.Proper.{free, top, power, ends, takes_arrow, ends_bare, is_call, IsOperand, HasSuffix, IsCallable, AreArguments, AreArrayItems, AreValues, FitsListing, FitsLeft, IsKey, Proper, AreProperItems, IsProperLead, AreProperPieces, IsProperClass, AreProperSteps}
+use Rattle.php_ast.specs.Proper.{free, top, power, takes_arrow, ends_bare, is_call, IsOperand, HasSuffix, IsCallable, AreArguments, AreArrayItems, AreValues, FitsListing, FitsLeft, IsKey, Proper, AreProperItems, IsProperLead, AreProperPieces, IsProperClass, AreProperSteps}
 use Rattle.php_ast.specs.Machine.{Nothing, Form, Holder, of_call, of_new, of_list, Frame, in_enclosed, in_items, in_index, in_computed, in_step, in_part, in_then, in_else, in_short, in_prefix, in_binary, in_instance, in_assign, in_yield, in_yield_value, Stack, Mode, need, have, have_call, due_enclosed, due_listed, at_items, at_value, at_exit, at_exit_paren, at_static, at_static_colons, at_template, at_index, at_arrow, at_new, at_class, at_step, at_question, at_assign, at_yield, level, has_paren, is_array, holder_front, front}
 use Rattle.php_ast.proofs.Signs.{enclosure_word, listing_word}
 

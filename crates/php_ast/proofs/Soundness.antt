@@ -1,5 +1,5 @@
 -- A reading gives a proper tree, whose spelling is what was read and what it lacks.
-use Rattle.std.proofs.Common.{◌≡◌, ◌≤◌, ◌<◌, ◌⊎◌, inl, inr, ℕ, suc, Bool, true, false, Option, Some, None, List, [], ◌∷◌, ◌++◌, refl, sym, ◌∙◌, ap, subst, arith, ltb-true}
+use Rattle.std.proofs.Common.{◌≡◌, ◌≤◌, ◌<◌, Bool, true, false, Option, Some, None, List, [], ◌∷◌, ◌++◌, refl, sym, ◌∙◌, ap, subst, arith, ltb-true}
 use Rattle.std.specs.Prelude.{nat_lt}
 use Rattle.php_lex.specs.declared.kind.Keyword.{Keyword}
 use Rattle.php_lex.specs.declared.kind.Keyword.TheVariants as word
@@ -10,16 +10,15 @@ use Rattle.php_ast.specs.declared.operator.ArrayForm.TheVariants as form
 use Rattle.php_ast.specs.Symbol as symbol
 use Rattle.php_ast.specs.Symbol.{Symbol, keyword, punct}
 use Rattle.php_ast.specs.Tree.{Leaf, no_piece, Enclosure, parentheses, emptiness, exiting, Listing, array, isset, Arrow, thin, colons, by_value, by_reference, Member, named}
-use Rattle.php_ast.specs.Tree.{Tree, leaf, template, enclosed, listed, exit, exit_empty, static_member, append, index, selected, computed, call, new, new_with, prefix, counted, binary, instance, static_instance, choice, short_choice, assign, yield_nothing, yield_value, yield_pair}
-use Rattle.php_ast.specs.Tree.{Items, none, and, skip, Lead, plain, reference, spread, keyed, keyed_reference, Pieces, bytes, value, Class, class_name, class_static, class_found, Steps, from, step_property, step_index}
-use Rattle.php_ast.specs.Spelling.{spell, spell_items, spell_class, comma, list_opening, member_symbol}
-use Rattle.php_ast.specs.Power.{binary_row, choice_row, instance_row}
-use Rattle.php_ast.specs.Proper.{free, top, power, ends, takes_arrow, ends_bare, is_call, is_none, IsOperand, AreArguments, AreArrayItems, AreProperItems, AreProperSteps, Proper, IsWord, IsKey, IsProperClass, IsProperLead, is_alone_missing}
-use Rattle.php_ast.specs.Sign.{First, is_leaf, is_static, is_quote, is_exit, is_new, is_yield, encloses, lists, operates, nothing, first, Draw, goes, checks, asks, sets, counts, calls, indexes, selects, Closer, paren, bracket, brace, comma as closing_comma, double_arrow, colon, semicolon, part_end, Next, draws, closes, other, next, draw_weight, weight_of, weight, is_arrow, ends_yield, word_of, member_of, Mark, refers, spreads, ends_item, begins, item_mark, is_ampersand, is_paren, is_right_paren, is_right_bracket, is_left_brace, is_colon}
-use Rattle.php_ast.specs.Machine.{Nothing, Form, Holder, of_call, of_new, of_list, Frame, in_enclosed, in_items, in_index, in_computed, in_step, in_part, in_then, in_else, in_short, in_prefix, in_binary, in_instance, in_assign, in_yield, in_yield_value, Stack, Mode, need, have, have_call, due_enclosed, due_listed, at_items, at_value, at_exit, at_exit_paren, at_static, at_static_colons, at_template, at_index, at_arrow, at_new, at_class, at_step, at_question, at_assign, at_yield, operand_level, level, any, any_symbol, any_member, closed_with, has_paren, holder_closing, is_array, is_arguments, may_end, ended_items, plug, lacks, holder_front, front_at, front, Due, pick, provided, settle, after_by, after, assigning, opened, is_plain, keys, closed, closes_in, drawn, goes_on, started, start, ended_by, item_step, static_alone, static_step, template_step, with_member, arrow_step, new_step, class_step, step, Outcome, stop_whole, stop_short, stop_static, is_last, stop_yield, stop, onward, run}
-use Rattle.php_ast.proofs.Signs.{draw_symbol, closer_symbol, enclosure_word, listing_word, Says, next_says, FirstSays, first_says, MarkSays, item_says, MemberSays, member_says, WordSays, word_says, TestSays, ampersand_says, paren_says, right_paren_says, right_bracket_says, left_brace_says, colon_says}
-use Rattle.php_ast.proofs.Sound.{SoundHolder, SoundList, SoundEnd, SoundLead, SoundItems, SoundAt, Sound, Seats, Fits, Closed, IsGood, written}
-use Rattle.php_ast.proofs.Fill.{prefix_small, edge_small, binary_small, level_small, level_top, level_free, list_more, list_end, closed_proper, closed_power, closed_closed, closed_spells, seats_by, plugged_spells, plugged_proper, plugged_bare}
+use Rattle.php_ast.specs.Tree.{leaf, template, enclosed, exit, exit_empty, static_member, append, index, selected, computed, call, new, prefix, counted, binary, instance, static_instance, choice, short_choice, assign, yield_nothing, yield_value, yield_pair}
+use Rattle.php_ast.specs.Tree.{Items, none, and, skip, Lead, plain, reference, spread, keyed, keyed_reference, Pieces, value, Class, class_name, class_static, class_found, Steps, from, step_property, step_index}
+use Rattle.php_ast.specs.Spelling.{spell, spell_items, list_opening, member_symbol}
+use Rattle.php_ast.specs.Proper.{free, top, power, ends, takes_arrow, ends_bare, is_call, is_none, IsOperand, AreArguments, AreArrayItems, AreProperItems, Proper, IsWord, IsKey, IsProperClass, IsProperLead, is_alone_missing}
+use Rattle.php_ast.specs.Sign.{First, is_leaf, is_static, is_quote, is_exit, is_new, is_yield, encloses, lists, operates, nothing, first, Draw, goes, checks, asks, sets, counts, calls, indexes, selects, Closer, paren, bracket, brace, comma as closing_comma, double_arrow, colon, part_end, Next, draws, closes, other, next, draw_weight, weight_of, weight, is_arrow, ends_yield, word_of, member_of, Mark, refers, spreads, ends_item, begins, item_mark, is_ampersand, is_paren, is_right_paren, is_right_bracket, is_left_brace, is_colon}
+use Rattle.php_ast.specs.Machine.{Nothing, Form, Holder, of_call, of_new, of_list, Frame, in_enclosed, in_items, in_index, in_computed, in_step, in_part, in_then, in_else, in_short, in_prefix, in_binary, in_instance, in_assign, in_yield, in_yield_value, Stack, Mode, need, have, have_call, due_enclosed, due_listed, at_items, at_value, at_exit, at_exit_paren, at_static, at_static_colons, at_template, at_index, at_arrow, at_new, at_class, at_step, at_question, at_assign, at_yield, operand_level, level, any, any_symbol, any_member, closed_with, has_paren, holder_closing, is_array, is_arguments, may_end, ended_items, plug, lacks, holder_front, front, Due, pick, provided, settle, after_by, after, assigning, opened, keys, closed, closes_in, drawn, goes_on, started, start, ended_by, item_step, static_alone, static_step, template_step, with_member, arrow_step, new_step, class_step, step, Outcome, stop_short, stop_static, is_last, stop_yield, stop, onward, run}
+use Rattle.php_ast.proofs.Signs.{draw_symbol, closer_symbol, listing_word, Says, next_says, FirstSays, first_says, MarkSays, item_says, MemberSays, member_says, WordSays, word_says, TestSays, ampersand_says, paren_says, right_paren_says, right_bracket_says, left_brace_says, colon_says}
+use Rattle.php_ast.proofs.Sound.{SoundHolder, SoundList, SoundEnd, SoundLead, SoundItems, Sound, Fits, Closed, IsGood, written}
+use Rattle.php_ast.proofs.Fill.{prefix_small, edge_small, level_top, level_free, list_more, list_end, closed_proper, closed_power, closed_closed, closed_spells, seats_by, plugged_spells, plugged_proper, plugged_bare}
 use Rattle.php_ast.proofs.Settle.{ends_top, top_level, IsSettled, settled, settle_none}
 
 -- ---- steps

@@ -1,5 +1,5 @@
 -- Examples of the spelling of statements and declarations, and of the nearest `if`, by computing.
-use Rattle.std.proofs.Common.{◌≡◌, ℕ, ℤ, pos, Bool, true, false, Option, Some, None, List, [], ◌∷◌, refl, arith}
+use Rattle.std.proofs.Common.{◌≡◌, ℕ, true, false, Some, None, [], ◌∷◌, refl}
 use Rattle.php_lex.specs.declared.kind.Keyword.TheVariants as word
 use Rattle.php_lex.specs.declared.kind.Punct.TheVariants as mark
 use Rattle.php_ast.specs.declared.statement.SwitchForm.TheVariants as switch_form
@@ -12,10 +12,10 @@ use Rattle.php_ast.specs.Symbol.{Symbol, keyword, punct}
 use Rattle.php_ast.specs.Tree as tree
 use Rattle.php_ast.specs.Tree.{variable, int, leaf, none, and, plain}
 use Rattle.php_ast.specs.Machine.{Form, Nothing}
-use Rattle.php_ast.specs.Statements.{Sequence, empty, then_also, Name, Statement, block, expression, echo, statics, jump, if_only, if_else, if_lists, if_else_lists, while, do_while, foreach, switch, try_catch, returning, Statements, no_statement, and_statement, no_elseif, and_elseif, no_elseif_list, single, list_behind_colon, no_case, and_case, no_catch, and_catch}
+use Rattle.php_ast.specs.Statements.{empty, then_also, Name, Statement, block, expression, echo, statics, jump, if_only, if_else, if_else_lists, while, do_while, foreach, switch, try_catch, returning, Statements, no_statement, and_statement, no_elseif, and_elseif, no_elseif_list, single, list_behind_colon, no_case, and_case, no_catch, and_catch}
 use Rattle.php_ast.specs.StatementSpelling.{spell_statement}
 use Rattle.php_ast.specs.ProperStatement.{IsProper}
-use Rattle.php_ast.specs.Declarations.{of_array, of_name, of_class, of_function, renames, uses_by, method, properties, Function, Class}
+use Rattle.php_ast.specs.Declarations.{of_array, of_name, of_class, of_function, renames, uses_by, properties}
 use Rattle.php_ast.specs.DeclarationSpelling.{spell_script}
 
 -- ---- shorthand: `$x`, `$x;`, the name `n`, a small integer

@@ -1,26 +1,23 @@
 -- What the machine does at each symbol of a spelling.
-use Rattle.std.proofs.Common.{◌≡◌, ◌≤◌, ◌<◌, ◌⊎◌, inl, inr, ℕ, suc, Bool, true, false, Option, Some, None, List, [], ◌∷◌, refl, sym, ◌∙◌, ap, subst, arith}
+use Rattle.std.proofs.Common.{◌≡◌, ◌≤◌, ◌<◌, ℕ, Bool, true, false, Some, None, List, [], ◌∷◌, refl, ◌∙◌, ap, arith}
 use Rattle.std.specs.Prelude.{nat_lt}
-use Rattle.std.proofs.lemmas.Bool.{lt-ltb, le-ltb}
+use Rattle.std.proofs.lemmas.Bool.{lt-ltb}
 use Rattle.php_lex.specs.declared.kind.Keyword.TheVariants as word
 use Rattle.php_lex.specs.declared.kind.Punct.TheVariants as mark
 use Rattle.php_ast.specs.declared.operator.Prefix.{Prefix}
 use Rattle.php_ast.specs.declared.operator.Assign.TheVariants as setting
-use Rattle.php_ast.specs.declared.operator.ArrayForm.TheVariants as form
-use Rattle.php_ast.specs.Symbol as symbol
 use Rattle.php_ast.specs.Symbol.{Symbol, keyword, punct}
-use Rattle.php_ast.specs.Tree.{append, exiting, exit_empty, by_reference, keyed_reference, Leaf, Listing, array, isset, Arrow, thin, colons, by_value, Member}
-use Rattle.php_ast.specs.Tree.{Tree, leaf, call, Items, none, and, skip, Lead, plain, keyed, Class, class_name, class_static, class_found, Steps, new, static_instance, exit, yield_nothing, static_member}
-use Rattle.php_ast.specs.Spelling.{leaf_symbol, member_symbol}
+use Rattle.php_ast.specs.Tree.{append, exiting, exit_empty, by_reference, keyed_reference, Leaf, colons, by_value}
+use Rattle.php_ast.specs.Tree.{leaf, Items, plain, keyed, Class, class_name, class_static, class_found, new, static_instance, exit, yield_nothing}
+use Rattle.php_ast.specs.Spelling.{leaf_symbol}
 use Rattle.php_ast.specs.Operators.{prefix_symbol}
-use Rattle.php_ast.specs.Power.{binary_row, choice_row}
-use Rattle.php_ast.specs.Proper.{free, top, power, ends, takes_arrow, ends_bare, is_call}
-use Rattle.php_ast.specs.Sign.{First, first, is_leaf, operates, Draw, goes, checks, asks, sets, counts, calls, indexes, selects, Closer, comma, Next, draws, closes, other, next, draw_weight, weight_of, weight, is_arrow, ends_yield, Mark, begins, item_mark, is_ampersand, is_paren, is_right_paren, is_right_bracket, is_colon}
-use Rattle.php_ast.specs.Machine.{Nothing, Form, Holder, of_call, of_new, of_list, Frame, in_enclosed, in_items, in_index, in_computed, in_step, in_part, in_then, in_else, in_short, in_prefix, in_binary, in_instance, in_assign, in_yield, in_yield_value, Stack, Mode, need, have, have_call, at_items, at_value, at_exit, at_exit_paren, at_static, at_index, at_class, at_question, at_assign, at_yield, operand_level, level_at, level, ends_at, filled, is_call_at, seated, seat_end, plug, lacks, end_at, Due, pick, provided, settle, after_by, after, opened, drawn, goes_on, started, start, item_step, class_step, static_step, static_alone, step, Outcome, stop_whole, stop_short, stop_yield, is_last, stop, onward, run}
+use Rattle.php_ast.specs.Proper.{free, ends, is_call}
+use Rattle.php_ast.specs.Sign.{Draw, calls, indexes, selects, Next, draws, other, next, draw_weight, weight_of, weight, is_arrow, ends_yield, item_mark, is_ampersand, is_paren, is_right_paren, is_right_bracket, is_colon}
+use Rattle.php_ast.specs.Machine.{Nothing, Form, Holder, Frame, in_enclosed, in_items, in_index, in_then, in_short, in_prefix, in_instance, in_assign, in_yield, Stack, Mode, need, have, have_call, at_items, at_value, at_exit, at_exit_paren, at_static, at_index, at_class, at_question, at_assign, at_yield, operand_level, level_at, level, ends_at, filled, seated, seat_end, plug, lacks, end_at, pick, provided, settle, after_by, after, opened, drawn, goes_on, started, start, item_step, class_step, static_step, step, stop_whole, stop_short, stop_yield, is_last, stop, onward, run}
 use Rattle.php_ast.proofs.Signs.{draw_symbol, next_draw, first_prefix, first_leaf, item_says, ampersand_says, paren_says, right_paren_says, right_bracket_says, colon_says, next_says, TestSays}
 use Rattle.php_ast.proofs.Fill.{endless, endless_call, level_top}
-use Rattle.php_ast.proofs.Settle.{ends_top, top_level, settle_none}
-use Rattle.php_ast.proofs.Trees.{Starts, is_first, test_false, item_begins, yield_begins}
+use Rattle.php_ast.proofs.Settle.{top_level, settle_none}
+use Rattle.php_ast.proofs.Trees.{Starts, test_false, item_begins, yield_begins}
 
 pub moves : (m n : Mode) (t : Symbol) (w : List Symbol) → step m t ≡ Some n → run m (t ∷ w) ≡ run n w
 moves m n t w is = ap (λ o. onward o (λ x. run x w) (stop m (t ∷ w))) is

@@ -1,5 +1,5 @@
 -- The nesting that a reading counts at each symbol of a spelling.
-use Rattle.std.proofs.Common.{◌≡◌, ◌≤◌, ◌<◌, ℕ, ◌+◌, Bool, true, false, Option, Some, None, List, [], ◌∷◌, refl, sym, ◌∙◌, ap, subst, arith}
+use Rattle.std.proofs.Common.{◌≡◌, ◌≤◌, ◌<◌, ℕ, ◌+◌, Bool, true, false, Some, None, List, [], ◌∷◌, refl, ◌∙◌, ap, arith}
 use Rattle.std.specs.Prelude.{nat_lt}
 use Rattle.std.proofs.lemmas.Bool.{lt-ltb, le-ltb}
 use Rattle.php_lex.specs.declared.kind.Keyword.TheVariants as word
@@ -8,16 +8,16 @@ use Rattle.php_ast.specs.declared.operator.Prefix.{Prefix}
 use Rattle.php_ast.specs.declared.operator.Assign.{Assign}
 use Rattle.php_ast.specs.declared.operator.Assign.TheVariants as setting
 use Rattle.php_ast.specs.Symbol.{Symbol, keyword, punct}
-use Rattle.php_ast.specs.Tree.{append, exiting, exit_empty, by_reference, keyed_reference, Leaf, by_value, leaf, Items, plain, keyed, Class, class_name, class_static, class_found, new, static_instance, exit, yield_nothing}
+use Rattle.php_ast.specs.Tree.{append, exiting, exit_empty, by_reference, keyed_reference, Leaf, by_value, leaf, Items, plain, keyed, Class, new, static_instance, exit, yield_nothing}
 use Rattle.php_ast.specs.Spelling.{leaf_symbol}
 use Rattle.php_ast.specs.Operators.{prefix_symbol}
 use Rattle.php_ast.specs.Proper.{free, ends, is_call}
-use Rattle.php_ast.specs.Sign.{Draw, calls, indexes, selects, Next, draws, closes, other, next, draw_weight, weight_of, weight, is_arrow, ends_yield, item_mark, is_ampersand, is_paren, is_right_paren, is_right_bracket, is_colon}
-use Rattle.php_ast.specs.Machine.{Nothing, Form, Holder, of_new, Frame, in_enclosed, in_items, in_index, in_then, in_short, in_prefix, in_instance, in_assign, in_yield, Stack, Mode, need, have, have_call, at_items, at_value, at_exit, at_exit_paren, at_static, at_index, at_class, at_question, at_assign, at_yield, operand_level, level_at, level, ends_at, filled, pick, provided, settle, after_by, after, assigning, opened, drawn, goes_on, started, start, item_step, class_step, static_step, step}
-use Rattle.php_ast.specs.Depth.{deepened, depth, kept, depth_behind, static_depth, nesting, onto, trace}
-use Rattle.php_ast.proofs.Signs.{draw_symbol, next_draw, first_prefix, first_leaf, item_says, ampersand_says, paren_says, right_paren_says, right_bracket_says, colon_says, next_says}
+use Rattle.php_ast.specs.Sign.{Draw, draws, next, draw_weight, weight_of, is_arrow, ends_yield, item_mark, is_ampersand, is_right_paren, is_right_bracket, is_colon}
+use Rattle.php_ast.specs.Machine.{Nothing, Form, Holder, Frame, in_enclosed, in_items, in_index, in_then, in_short, in_prefix, in_instance, in_assign, in_yield, Stack, Mode, need, have, have_call, at_items, at_value, at_exit, at_exit_paren, at_static, at_index, at_class, at_question, at_assign, at_yield, operand_level, level_at, level, ends_at, filled, pick, provided, after_by, after, assigning, opened, goes_on, started, start, item_step, step}
+use Rattle.php_ast.specs.Depth.{depth, kept, depth_behind, nesting, onto, trace}
+use Rattle.php_ast.proofs.Signs.{draw_symbol, next_draw, first_prefix, first_leaf, item_says, ampersand_says, right_paren_says, right_bracket_says, colon_says, next_says}
 use Rattle.php_ast.proofs.Fill.{level_top}
-use Rattle.php_ast.proofs.Settle.{ends_top, top_level, settle_none}
+use Rattle.php_ast.proofs.Settle.{ends_top, top_level}
 use Rattle.php_ast.proofs.Trees.{Starts, test_false, item_begins, yield_begins}
 use Rattle.php_ast.proofs.Steps.{head_next, head_weight, after_low, ended_step, paren_weight, class_by, static_by, goes_on_draws}
 
@@ -44,9 +44,9 @@ suffix_by false d e s w tight low = draws_count d e s w (omega (arith, level_top
 suffix_by true d e [] w tight low = draws_count d e [] w (omega arith) low
 suffix_by true d e (in_instance l ∷ s) w tight low =
     counts_on (have_call e (in_instance l ∷ s)) (opened d e (in_instance l ∷ s)) (draw_symbol d) w (depth (in_instance l ∷ s))
-      (ap (λ x. pick (nat_lt operand_level (weight_of x)) (goes_on e (in_instance l ∷ s) x) None) (next_draw d)
-        ∙ ap (λ b. pick b (goes_on e (in_instance l ∷ s) (draws d)) None) (lt-ltb operand_level (draw_weight d) tight)
-        ∙ goes_on_draws d e (in_instance l ∷ s) (omega arith) low) refl
+    (ap (λ x. pick (nat_lt operand_level (weight_of x)) (goes_on e (in_instance l ∷ s) x) None) (next_draw d)
+    ∙ ap (λ b. pick b (goes_on e (in_instance l ∷ s) (draws d)) None) (lt-ltb operand_level (draw_weight d) tight)
+    ∙ goes_on_draws d e (in_instance l ∷ s) (omega arith) low) refl
 suffix_by true d e (f ∷ s) w tight low = draws_count d e (f ∷ s) w (omega (arith, level_top (f ∷ s))) low
 
 pub suffix_count : (d : Draw) (e : Form) (s : Stack) (w : List Symbol) → 90 < draw_weight d → draw_weight d < ends e
@@ -62,8 +62,8 @@ ended_count : (f : Frame) (s : Stack) (e : Form) (w : List Symbol) → head_weig
 ended_count f s e [] h = refl
 ended_count f s e (t ∷ w) h =
     ap (λ o. onto o (nesting (have e (f ∷ s)) t) (λ n. trace n w)) (ended_step f s e (next t) h)
-      ∙ ap (λ b. onto (goes_on (filled f e) s (next t)) (depth (pick b (kept (is_arrow (next t)) (weight_of (next t)) s) (f ∷ s))) (λ n. trace n w))
-        (lt-ltb (weight_of (next t)) (ends_at (is_arrow (next t)) f) h)
+    ∙ ap (λ b. onto (goes_on (filled f e) s (next t)) (depth (pick b (kept (is_arrow (next t)) (weight_of (next t)) s) (f ∷ s))) (λ n. trace n w))
+    (lt-ltb (weight_of (next t)) (ends_at (is_arrow (next t)) f) h)
 
 pub close_count : (f : Frame) (s : Stack) (e : Form) (w : List Symbol) → level_at f < 90 → head_weight w < ends_at (is_arrow (head_next w)) f
     → trace (after e (f ∷ s)) w ≡ trace (have (filled f e) s) w
@@ -78,7 +78,7 @@ instance_count l e s w is short = ap (λ b. trace (after_by b e (in_instance l �
 pub prefix_count : (op : Prefix) (s : Stack) (w : List Symbol) → level s ≤ free → trace (need s) (prefix_symbol op ∷ w) ≡ depth s ∷ trace (need (in_prefix op ∷ s)) w
 prefix_count op s w h =
     counts_on (need s) (need (in_prefix op ∷ s)) (prefix_symbol op) w (depth s)
-      (ap (λ x. started x s) (first_prefix op) ∙ ap (λ b. provided b (need (in_prefix op ∷ s))) (lt-ltb (level s) operand_level (omega arith))) refl
+    (ap (λ x. started x s) (first_prefix op) ∙ ap (λ b. provided b (need (in_prefix op ∷ s))) (lt-ltb (level s) operand_level (omega arith))) refl
 
 pub yield_count : (s : Stack) (w : List Symbol) → level s ≤ free → trace (need s) (keyword word.Yield ∷ w) ≡ depth s ∷ trace (at_yield s) w
 yield_count s w h =
@@ -93,25 +93,25 @@ pub index_enters : (e : Form) (s : Stack) (v : List Symbol) → Starts v → tra
 index_enters e s [] h = absurd h
 index_enters e s (t ∷ w) h =
     ap (λ b. onto (pick b (Some (have (append e) s)) (start (in_index e ∷ s) t)) (1 + depth s) (λ n. trace n w))
-      (test_false (is_right_bracket t) t (punct mark.RightBracket) (right_bracket_says t) refl h)
+    (test_false (is_right_bracket t) t (punct mark.RightBracket) (right_bracket_says t) refl h)
 
 pub exit_enters : (s : Stack) (v : List Symbol) → Starts v → trace (at_exit_paren s) v ≡ trace (need (in_enclosed exiting ∷ s)) v
 exit_enters s [] h = absurd h
 exit_enters s (t ∷ w) h =
     ap (λ b. onto (pick b (Some (have (exit_empty tt) s)) (start (in_enclosed exiting ∷ s) t)) (1 + depth s) (λ n. trace n w))
-      (test_false (is_right_paren t) t (punct mark.RightParen) (right_paren_says t) refl h)
+    (test_false (is_right_paren t) t (punct mark.RightParen) (right_paren_says t) refl h)
 
 pub then_enters : (c : Form) (s : Stack) (v : List Symbol) → Starts v → trace (at_question c s) v ≡ trace (need (in_then c ∷ s)) v
 then_enters c s [] h = absurd h
 then_enters c s (t ∷ w) h =
     ap (λ b. onto (pick b (Some (need (in_short c ∷ s))) (start (in_then c ∷ s) t)) (pick b (depth s) (1 + depth s)) (λ n. trace n w))
-      (test_false (is_colon t) t (punct mark.Colon) (colon_says t) refl h)
+    (test_false (is_colon t) t (punct mark.Colon) (colon_says t) refl h)
 
 assign_enters : (l : Form) (s : Stack) (v : List Symbol) → Starts v → trace (at_assign l s) v ≡ trace (need (in_assign (by_value setting.Plain) l ∷ s)) v
 assign_enters l s [] h = absurd h
 assign_enters l s (t ∷ w) h =
     ap (λ b. onto (pick b (Some (need (in_assign by_reference l ∷ s))) (start (in_assign (by_value setting.Plain) l ∷ s) t)) (pick b (depth s) (1 + depth s)) (λ n. trace n w))
-      (test_false (is_ampersand t) t (punct mark.Ampersand) (ampersand_says t) refl h)
+    (test_false (is_ampersand t) t (punct mark.Ampersand) (ampersand_says t) refl h)
 
 pub assigned_enters : (op : Assign) (l : Form) (s : Stack) (v : List Symbol) → Starts v → trace (assigning op l s) v ≡ trace (need (in_assign (by_value op) l ∷ s)) v
 assigned_enters setting.Plain l s v h = assign_enters l s v h
@@ -121,7 +121,7 @@ pub value_enters : (h : Holder) (items : Items Nothing) (k : Form) (s : Stack) (
 value_enters h items k s [] g = absurd g
 value_enters h items k s (t ∷ w) g =
     ap (λ b. onto (pick b (Some (need (in_items h items (keyed_reference k) ∷ s))) (start (in_items h items (keyed k) ∷ s) t)) (1 + depth s) (λ n. trace n w))
-      (test_false (is_ampersand t) t (punct mark.Ampersand) (ampersand_says t) refl g)
+    (test_false (is_ampersand t) t (punct mark.Ampersand) (ampersand_says t) refl g)
 
 pub items_enter : (h : Holder) (items : Items Nothing) (s : Stack) (v : List Symbol) → Starts v → trace (at_items h items s) v ≡ trace (need (in_items h items plain ∷ s)) v
 items_enter h items s [] g = absurd g
@@ -131,7 +131,7 @@ pub yield_enters : (s : Stack) (v : List Symbol) → Starts v → trace (at_yiel
 yield_enters s [] h = absurd h
 yield_enters s (t ∷ w) h =
     ap (λ b. onto (pick b (goes_on (yield_nothing tt) s (next t)) (start (in_yield ∷ s) t)) (pick b (depth_behind s (next t)) (1 + depth s)) (λ n. trace n w))
-      (yield_begins (next t) t (next_says t) h)
+    (yield_begins (next t) t (next_says t) h)
 
 -- ---- words that may end a form
 

@@ -1,19 +1,18 @@
 -- Facts on trees: their ends and their powers, and the symbols that they begin with.
-use Rattle.std.proofs.Common.{◌≡◌, ◌≤◌, ◌<◌, ℕ, suc, Bool, true, false, min, List, [], ◌∷◌, refl, sym, ◌∙◌, ap, subst, arith}
+use Rattle.std.proofs.Common.{◌≡◌, ◌≤◌, ◌<◌, ℕ, Bool, true, false, List, [], ◌∷◌, refl, ap, arith}
 use Rattle.php_lex.specs.declared.kind.Punct.TheVariants as mark
 use Rattle.php_ast.specs.declared.operator.Prefix.{Prefix}
 use Rattle.php_ast.specs.declared.operator.Prefix.TheVariants as prefix_op
 use Rattle.php_ast.specs.declared.operator.ArrayForm.TheVariants as form
 use Rattle.php_ast.specs.Symbol.{Symbol, punct}
-use Rattle.php_ast.specs.Tree.{Items, Leaf, Enclosure, parentheses, emptiness, exiting, Listing, array, isset}
-use Rattle.php_ast.specs.Tree.{Tree, leaf, template, enclosed, listed, exit, exit_empty, static_member, append, index, selected, computed, call, new, new_with, prefix, counted, binary, instance, static_instance, choice, short_choice, assign, yield_nothing, yield_value, yield_pair}
-use Rattle.php_ast.specs.Spelling.{spell, leaf_symbol}
-use Rattle.php_ast.specs.Operators.{prefix_symbol}
-use Rattle.php_ast.specs.Power.{binary_row, choice_row, prefix_power}
-use Rattle.php_ast.specs.Proper.{free, top, power, ends, edge, takes_arrow, ends_bare, Proper}
-use Rattle.php_ast.specs.Sign.{Closer, First, is_leaf, operates, nothing, first, Next, draws, closes, other, paren, bracket, comma, semicolon, double_arrow, next, is_arrow, ends_yield, Mark, refers, spreads, ends_item, begins, item_mark}
+use Rattle.php_ast.specs.Tree.{Items, Enclosure, parentheses, emptiness, exiting, Listing, array, isset}
+use Rattle.php_ast.specs.Tree.{leaf, template, enclosed, listed, exit, exit_empty, static_member, append, index, selected, computed, call, new, new_with, prefix, counted, binary, instance, static_instance, choice, short_choice, assign, yield_nothing, yield_value, yield_pair}
+use Rattle.php_ast.specs.Spelling.{spell}
+use Rattle.php_ast.specs.Power.{prefix_power}
+use Rattle.php_ast.specs.Proper.{free, top, power, ends, takes_arrow, ends_bare}
+use Rattle.php_ast.specs.Sign.{Closer, First, nothing, first, Next, draws, closes, other, paren, ends_yield, Mark, refers, spreads, ends_item, begins}
 use Rattle.php_ast.specs.Machine.{Form}
-use Rattle.php_ast.proofs.Signs.{closer_symbol, Says, next_says, first_prefix, first_leaf, MarkSays, item_says, TestSays}
+use Rattle.php_ast.proofs.Signs.{closer_symbol, Says, first_prefix, first_leaf, MarkSays, TestSays}
 use Rattle.php_ast.proofs.Fill.{prefix_small, binary_small, edge_small}
 
 -- ---- ends and powers

@@ -1,5 +1,5 @@
 -- The spelling of declarations and of a script, in front of what follows.
-use Rattle.std.specs.Prelude.{Bool, true, false, Option, Some, None, List, [], ◌∷◌}
+use Rattle.std.specs.Prelude.{Option, Some, None, List, [], ◌∷◌}
 use Rattle.php_lex.specs.declared.kind.Keyword.{Keyword}
 use Rattle.php_lex.specs.declared.kind.Keyword.TheVariants as word
 use Rattle.php_lex.specs.declared.kind.Punct.TheVariants as mark
@@ -14,7 +14,7 @@ use Rattle.php_ast.specs.Tree as tree
 use Rattle.php_ast.specs.Spelling.{spell, member_symbol}
 use Rattle.php_ast.specs.Statements.{Sequence, empty, then_also, Name, Statements}
 use Rattle.php_ast.specs.StatementSpelling.{commas, spell_name, spell_dollar, spell_value, spell_variable, sign_if, spell_statement, spell_statements}
-use Rattle.php_ast.specs.Declarations.{Base, of_name, of_array, of_callable, Type_of, Param, Signature, Function, Modifier, ClassWord, ClassConstant, Method, Rule, renames, prefers, Member, uses, uses_by, class_constants, method, properties, Class, Interface, Trait, Item, of_statement, of_function, of_class, of_interface, of_trait, Script}
+use Rattle.php_ast.specs.Declarations.{Base, of_name, of_array, of_callable, Type_of, Param, Signature, Function, Modifier, ClassWord, ClassConstant, Rule, renames, prefers, Member, uses, uses_by, class_constants, method, properties, Item, of_statement, of_function, of_class, of_interface, of_trait, Script}
 
 -- one after the other
 abbrev pub joined : {A : Type 0} → (A → List Symbol → List Symbol) → Sequence A → List Symbol → List Symbol

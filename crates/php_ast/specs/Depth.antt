@@ -1,5 +1,5 @@
 -- How deep a symbol is nested, by what was read before it.
-use Rattle.std.specs.Prelude.{ℕ, ◌+◌, Bool, true, false, nat_lt, Option, Some, None, List, [], ◌∷◌}
+use Rattle.std.specs.Prelude.{ℕ, ◌+◌, Bool, nat_lt, Option, Some, None, List, [], ◌∷◌}
 use Rattle.php_ast.specs.Symbol.{Symbol}
 use Rattle.php_ast.specs.Power.{binary_row}
 use Rattle.php_ast.specs.Nesting.{right_depth}

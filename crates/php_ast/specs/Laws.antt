@@ -1,5 +1,5 @@
 -- What is proved of the grammar of expressions, for every list of symbols and every tree.
-use Rattle.std.specs.Prelude.{◌≡◌, ℕ, Bool, true, false, List, [], ◌∷◌, ◌++◌, map}
+use Rattle.std.specs.Prelude.{◌≡◌, ℕ, true, false, List, [], ◌∷◌, ◌++◌, map}
 use Rattle.php_lex.specs.Token.{Token}
 use Rattle.php_ast.specs.Symbol.{Symbol, symbol}
 use Rattle.php_ast.specs.Tree.{Tree}
@@ -8,7 +8,9 @@ use Rattle.php_ast.specs.Proper.{Proper, takes_arrow, ends_bare}
 use Rattle.php_ast.specs.View.{Note}
 use Rattle.php_ast.specs.Placed.{form_of, IsPlaced}
 use Rattle.php_ast.specs.Sign.{Next, other, next, weight_of, is_arrow, ends_yield}
-use Rattle.php_ast.specs.Machine.{Form, Outcome, read}
+use Rattle.php_ast.specs.Nesting.{nests}
+use Rattle.php_ast.specs.Machine.{Form, Outcome, need, read}
+use Rattle.php_ast.specs.Depth.{trace}
 
 -- ---- what symbols spell and begin
 
@@ -64,6 +66,12 @@ pub record IsSpelled (tokens : List Token) (at : ℕ) (e : Tree Note) (w : List 
 
 abbrev pub OneTree : Type 0
 OneTree = (tokens : List Token) (at : ℕ) (w : List Token) (a b : Tree Note) → IsSpelled tokens at a w → IsSpelled tokens at b w → a ≡ b
+
+-- ---- nesting
+
+-- The nesting that a reading counts at each symbol is that of the tree.
+abbrev pub NestingAgrees : Type 0
+NestingAgrees = (e : Form) (v : List Symbol) → Proper e → EndsBefore e v → trace (need []) (spell e v) ≡ nests e 0 []
 
 -- ---- the exact place
 

@@ -5,6 +5,7 @@ pub mod Tree
 pub mod Spelling
 pub mod View
 pub mod Power
+pub mod PowerView
 pub mod Proper
 pub mod Nesting
 pub mod Placed

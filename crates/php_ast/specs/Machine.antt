@@ -1,6 +1,6 @@
 -- Reading an expression from left to right, one symbol at a time: what is open, and what a symbol does
 -- there. A step depends on what was read alone, and runs recurse on the symbols, so nothing is read twice.
-use Rattle.std.specs.Prelude.{ℕ, suc, ◌+◌, Bool, true, false, nat_lt, Option, Some, None, List, [], ◌∷◌}
+use Rattle.std.specs.Prelude.{ℕ, suc, Bool, true, false, nat_lt, Option, Some, None, List, [], ◌∷◌}
 use Rattle.php_lex.specs.declared.kind.Keyword.TheVariants as word
 use Rattle.php_lex.specs.declared.kind.Punct.TheVariants as mark
 use Rattle.php_ast.specs.declared.operator.Binary.{Binary}
@@ -10,15 +10,14 @@ use Rattle.php_ast.specs.declared.operator.Assign.TheVariants as setting
 use Rattle.php_ast.specs.declared.operator.ArrayForm.TheVariants as form
 use Rattle.php_ast.specs.Symbol as symbol
 use Rattle.php_ast.specs.Symbol.{Symbol, keyword, punct}
-use Rattle.php_ast.specs.Tree.{variable, Enclosure, parentheses, emptiness, exiting, Listing, array, isset, Arrow, thin, colons, Setting, by_value, by_reference, Member, named, reserved, held}
+use Rattle.php_ast.specs.Tree.{variable, Enclosure, parentheses, exiting, Listing, array, isset, Arrow, thin, colons, Setting, by_value, by_reference, Member, named, held}
 use Rattle.php_ast.specs.Tree.{Tree, leaf, template, enclosed, listed, exit, exit_empty, static_member, append, index, selected, computed, call, new, new_with, prefix, counted, binary, instance, static_instance, choice, short_choice, assign, yield_nothing, yield_value, yield_pair}
 use Rattle.php_ast.specs.Tree.{Items, none, and, skip, Lead, plain, reference, spread, keyed, keyed_reference, Pieces, no_piece, bytes, value, Class, class_name, class_static, class_found, Steps, from, step_property, step_index}
-use Rattle.php_ast.specs.Spelling.{spell, spell_items, spell_lead, spell_pieces, spell_class, spell_steps, comma, opening, list_opening, list_closing, setting_symbols, arrow_symbol, member_symbol}
+use Rattle.php_ast.specs.Spelling.{spell, spell_items, spell_lead, spell_pieces, spell_class, spell_steps, comma, opening, list_opening, list_closing, setting_symbols}
 use Rattle.php_ast.specs.Operators.{binary_symbol, prefix_symbol}
-use Rattle.php_ast.specs.Power.{binary_row, choice_row, instance_row, assign_row, prefix_power, yield_power}
+use Rattle.php_ast.specs.Power.{binary_row, choice_row, assign_row, prefix_power, yield_power}
 use Rattle.php_ast.specs.Proper.{right, ends, is_call, is_none}
-use Rattle.php_ast.specs.Nesting.{right_depth}
-use Rattle.php_ast.specs.Sign.{First, is_leaf, is_static, is_quote, is_exit, is_new, is_yield, encloses, lists, operates, nothing, first, Draw, goes, checks, asks, sets, counts, calls, indexes, selects, Closer, paren, bracket, brace, comma as closing_comma, double_arrow, colon, semicolon, part_end, Next, draws, closes, other, next, draw_weight, weight_of, weight, is_arrow, ends_yield, word_of, member_of, Mark, refers, spreads, ends_item, begins, item_mark, is_ampersand, is_paren, is_right_paren, is_right_bracket, is_left_brace, is_colon}
+use Rattle.php_ast.specs.Sign.{First, is_leaf, is_static, is_quote, is_exit, is_new, is_yield, encloses, lists, operates, nothing, first, Draw, goes, checks, asks, sets, counts, calls, indexes, selects, Closer, paren, bracket, brace, comma as closing_comma, double_arrow, colon, part_end, Next, draws, closes, other, next, draw_weight, weight_of, weight, is_arrow, ends_yield, word_of, member_of, Mark, refers, spreads, ends_item, begins, item_mark, is_ampersand, is_paren, is_right_paren, is_right_bracket, is_left_brace, is_colon}
 
 -- What is read is a form: a tree that notes nothing of its tokens.
 abbrev pub Nothing : Type 0

@@ -3,13 +3,12 @@
 -- What nests is: parentheses, brackets, braces, the parts of a text, the operand of a prefix operator, the right
 -- side of an operator that groups to the right, and the middle of `? :`. The token that opens a construct
 -- stands outside it, the token that closes it inside.
-use Rattle.std.specs.Prelude.{ℕ, ◌+◌, List, [], ◌∷◌}
-use Rattle.php_ast.specs.declared.operator.Binary.{Binary}
-use Rattle.php_ast.specs.Tree.{Enclosure, parentheses, emptiness, exiting, Listing, array, isset, Setting, by_value, by_reference}
+use Rattle.std.specs.Prelude.{ℕ, ◌+◌, List, ◌∷◌}
+use Rattle.php_ast.specs.Tree.{Enclosure, parentheses, Listing, array, Setting, by_value, by_reference}
 use Rattle.php_ast.specs.declared.operator.ArrayForm.TheVariants as form
 use Rattle.php_ast.specs.Tree.{Tree, leaf, template, enclosed, listed, exit, exit_empty, static_member, append, index, selected, computed, call, new, new_with, prefix, counted, binary, instance, static_instance, choice, short_choice, assign, yield_nothing, yield_value, yield_pair}
 use Rattle.php_ast.specs.Tree.{Items, none, and, skip, Lead, plain, reference, spread, keyed, keyed_reference, Pieces, no_piece, bytes, value, Class, class_name, class_static, class_found, Steps, from, step_property, step_index}
-use Rattle.php_ast.specs.Power.{Grouping, to_left, to_right, ungrouped, binary_row}
+use Rattle.php_ast.specs.Power.{Grouping, to_right, binary_row}
 
 -- how much deeper the right side of an operator is
 abbrev pub right_depth : Grouping → ℕ

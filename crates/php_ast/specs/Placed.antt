@@ -5,7 +5,7 @@
 -- where that changes nothing.
 use Rattle.std.specs.Prelude.{◌≡◌, ℕ, ◌+◌, List, []}
 use Rattle.php_lex.specs.Token.{Token, token_at}
-use Rattle.php_ast.specs.Tree.{Enclosure, parentheses, emptiness, exiting, Listing, array, isset, Setting, by_value, by_reference, Member, named, reserved, held}
+use Rattle.php_ast.specs.Tree.{Enclosure, parentheses, Listing, array, Setting, by_value, by_reference, Member, named, reserved, held}
 use Rattle.php_ast.specs.declared.operator.ArrayForm.TheVariants as form
 use Rattle.php_ast.specs.Tree.{Tree, leaf, template, enclosed, listed, exit, exit_empty, static_member, append, index, selected, computed, call, new, new_with, prefix, counted, binary, instance, static_instance, choice, short_choice, assign, yield_nothing, yield_value, yield_pair}
 use Rattle.php_ast.specs.Tree.{Items, none, and, skip, Lead, plain, reference, spread, keyed, keyed_reference, Pieces, no_piece, bytes, value, Class, class_name, class_static, class_found, Steps, from, step_property, step_index}

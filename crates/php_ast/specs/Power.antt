@@ -1,7 +1,7 @@
 -- The table of powers: how tightly each operator binds. A higher power binds tighter. The powers are
 -- even, but for those of `print` and `yield`, between which no other operator stands; so there is room for
 -- the least power above one.
-use Rattle.std.specs.Prelude.{ℕ, suc}
+use Rattle.std.specs.Prelude.{ℕ}
 use Rattle.php_ast.specs.declared.operator.Binary.{Binary}
 use Rattle.php_ast.specs.declared.operator.Binary.TheVariants as binary
 use Rattle.php_ast.specs.declared.operator.Prefix.{Prefix}

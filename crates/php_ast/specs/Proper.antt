@@ -1,8 +1,7 @@
 -- Which trees of expressions are proper: each operator has the operands that its power allows, and
 -- each form stands only where it may.
-use Rattle.std.specs.Prelude.{◌≡◌, ◌≤◌, ◌<◌, ℕ, suc, min, Bool, true, false, List, [], ◌∷◌}
-use Rattle.php_ast.specs.declared.operator.Binary.{Binary}
-use Rattle.php_ast.specs.Tree.{Listing, array, isset, Setting, Member, named, reserved, held}
+use Rattle.std.specs.Prelude.{◌≡◌, ◌≤◌, ◌<◌, ℕ, suc, min, Bool, true, false}
+use Rattle.php_ast.specs.Tree.{Listing, array, isset, Member, held}
 use Rattle.php_ast.specs.Tree.{Tree, leaf, template, enclosed, listed, exit, exit_empty, static_member, append, index, selected, computed, call, new, new_with, prefix, counted, binary, instance, static_instance, choice, short_choice, assign, yield_nothing, yield_value, yield_pair}
 use Rattle.php_ast.specs.Tree.{Items, none, and, skip, Lead, plain, reference, spread, keyed, keyed_reference, Pieces, no_piece, bytes, value, Class, class_name, class_static, class_found, Steps, from, step_property, step_index}
 use Rattle.php_ast.specs.Power.{Grouping, to_left, to_right, ungrouped, Row, binary_row, choice_row, instance_row, assign_row, prefix_power, yield_power}

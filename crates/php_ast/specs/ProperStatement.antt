@@ -5,7 +5,7 @@ use Rattle.php_ast.specs.declared.statement.CaseEnd.{CaseEnd}
 use Rattle.php_ast.specs.declared.statement.CaseEnd.TheVariants as case_end
 use Rattle.php_ast.specs.Tree.{Tree, Items}
 use Rattle.php_ast.specs.Proper.{Proper, AreProperItems, AreValues, is_none, ends_bare, IsKey}
-use Rattle.php_ast.specs.Statements.{Sequence, empty, then_also, Name, Variable, Constant, Target, Jump}
+use Rattle.php_ast.specs.Statements.{Sequence, empty, then_also, Target}
 use Rattle.php_ast.specs.Statements.{Statement, block, blank, inline, expression, echo, globals, statics, unset, constants, jump, throw, if_only, if_else, if_lists, if_else_lists, while, do_while, for, foreach, switch, try_catch, try_finally, declares}
 use Rattle.php_ast.specs.Statements.{Statements, no_statement, and_statement, ElseIfs, no_elseif, and_elseif, ElseIfLists, no_elseif_list, and_elseif_list, Body, single, list_behind_colon, Cases, no_case, and_case, Catches, no_catch, and_catch}
 

@@ -1,10 +1,10 @@
 -- The rules of powers as they are said of lists of operators. `Proper` says the same in one number a
 -- tree, `ends`; that the two agree is a law.
-use Rattle.std.specs.Prelude.{◌≡◌, ◌≤◌, ◌<◌, ◌⊎◌, ◌↔◌, ◌==◌, ℕ, Bool, true, false, if◌then◌else◌, List, [], ◌∷◌}
+use Rattle.std.specs.Prelude.{◌≤◌, ◌<◌, ◌⊎◌, ◌↔◌, ◌==◌, ℕ, Bool, true, false, if◌then◌else◌, List, [], ◌∷◌}
 use Rattle.php_ast.specs.declared.operator.Binary.{Binary}
 use Rattle.php_ast.specs.declared.operator.Prefix.{Prefix}
 use Rattle.php_ast.specs.Tree.{Tree, prefix, binary, instance, static_instance, choice, short_choice, assign, yield_nothing, yield_value, yield_pair}
-use Rattle.php_ast.specs.Power.{Grouping, to_left, to_right, ungrouped, Row, binary_row, choice_row, instance_row, assign_row, prefix_power, yield_power}
+use Rattle.php_ast.specs.Power.{Grouping, to_left, to_right, Row, binary_row, choice_row, instance_row, assign_row, prefix_power, yield_power}
 use Rattle.php_ast.specs.Proper.{power, FitsLeft, FitsRight, Proper}
 use Rattle.php_ast.specs.Machine.{Form}
 

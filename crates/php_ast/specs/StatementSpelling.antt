@@ -1,5 +1,5 @@
 -- The spelling of a statement, in front of what follows it.
-use Rattle.std.specs.Prelude.{Bool, true, false, Option, Some, None, List, [], ◌∷◌}
+use Rattle.std.specs.Prelude.{Bool, true, false, Option, Some, None, List, ◌∷◌}
 use Rattle.php_lex.specs.declared.kind.Keyword.{Keyword}
 use Rattle.php_lex.specs.declared.kind.Keyword.TheVariants as word
 use Rattle.php_lex.specs.declared.kind.Punct.TheVariants as mark
@@ -9,7 +9,7 @@ use Rattle.php_ast.specs.declared.statement.CaseEnd.{CaseEnd}
 use Rattle.php_ast.specs.declared.statement.CaseEnd.TheVariants as case_end
 use Rattle.php_ast.specs.Symbol as symbol
 use Rattle.php_ast.specs.Symbol.{Symbol, keyword, punct}
-use Rattle.php_ast.specs.Tree.{Tree, Items}
+use Rattle.php_ast.specs.Tree.{Tree}
 use Rattle.php_ast.specs.Spelling.{spell, spell_items}
 use Rattle.php_ast.specs.Statements.{Sequence, empty, then_also, Name, Variable, Constant, Target, Jump, returning, breaking, continuing}
 use Rattle.php_ast.specs.Statements.{Statement, block, blank, inline, expression, echo, globals, statics, unset, constants, jump, throw, if_only, if_else, if_lists, if_else_lists, while, do_while, for, foreach, switch, try_catch, try_finally, declares}

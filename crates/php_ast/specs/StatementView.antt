@@ -1,8 +1,7 @@
 -- The trees that statements and declarations of the program stand for.
-use Rattle.std.specs.Prelude.{ℕ, Bool, true, false, List, [], ◌∷◌, Option, Some, None, map}
+use Rattle.std.specs.Prelude.{List, [], ◌∷◌, Option, Some, None, map}
 use Rattle.php_ast.specs.declared.spot.Spot.{Spot}
 use Rattle.php_ast.specs.declared.spot.Name as rust_name
-use Rattle.php_ast.specs.declared.spot.Word.{Word}
 use Rattle.php_ast.specs.declared.expression.Expr.{Expr}
 use Rattle.php_ast.specs.declared.statement.Stmt.{Stmt, fold-Stmt}
 use Rattle.php_ast.specs.declared.statement.Stmt.TheOpen.{Stmt-F}
@@ -34,7 +33,6 @@ use Rattle.php_ast.specs.declared.declaration.Rule.TheVariants as rule_form
 use Rattle.php_ast.specs.declared.script.Script as rust_script
 use Rattle.php_ast.specs.declared.script.ScriptItem.{ScriptItem}
 use Rattle.php_ast.specs.declared.script.ScriptItem.TheVariants as script_item
-use Rattle.php_ast.specs.Tree as tree
 use Rattle.php_ast.specs.Tree.{Tree, Items, none}
 use Rattle.php_ast.specs.View.{Note, note, word_view, values_from, view}
 use Rattle.php_ast.specs.Statements.{Sequence, empty, then_also, Name, Variable, Constant, Target, returning, breaking, continuing}

@@ -2,10 +2,7 @@
 use Rattle.std.specs.Prelude.{ℕ, List, [], ◌∷◌, Option, Some, None}
 use Rattle.php_lex.specs.declared.kind.Keyword.{Keyword}
 use Rattle.php_ast.specs.declared.spot.Spot.{Spot}
-use Rattle.php_ast.specs.declared.spot.Name.{Name}
 use Rattle.php_ast.specs.declared.spot.Word.{Word}
-use Rattle.php_ast.specs.declared.operator.Assign.{Assign}
-use Rattle.php_ast.specs.declared.operator.ArrayForm.{ArrayForm}
 use Rattle.php_ast.specs.declared.expression.Expr.{Expr, fold-Expr}
 use Rattle.php_ast.specs.declared.expression.Expr.TheOpen.{Expr-F}
 use Rattle.php_ast.specs.declared.expression.Piece.{Piece}

@@ -1,7 +1,7 @@
 // Laws of the grammar. Each is the contract of a function that does nothing: it says what holds of the
 // definitions in specs/, for every tree and every list of symbols.
 
-ghost use Rattle.php_ast.specs.Laws.{ReadingBegins, ReadsBack, OneForm, OneTree, StopsExactly};
+ghost use Rattle.php_ast.specs.Laws.{ReadingBegins, ReadsBack, OneForm, OneTree, NestingAgrees, StopsExactly};
 ghost use Rattle.php_ast.specs.Rules.{RulesAgree};
 
 /// What a reading has read begins the spelling of a proper tree.
@@ -27,6 +27,11 @@ pub fn one_tree()
 /// The rules of powers, said of lists of operators, are what the numbers of `Proper` say.
 pub fn rules_agree()
     ensures { RulesAgree }
+{}
+
+/// The nesting that a reading counts is that of the tree.
+pub fn nesting_agrees()
+    ensures { NestingAgrees }
 {}
 
 /// Where a reading stops, the symbols begin no expression with one more.

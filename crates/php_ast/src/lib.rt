@@ -6,6 +6,7 @@ mod expression;
 pub mod first_path;
 pub mod laws;
 mod operator;
+mod power;
 mod script;
 mod spot;
 mod statement;
@@ -16,6 +17,7 @@ pub use declaration::{
 };
 pub use expression::{Argument, Class, ClassStep, Expr, Item, Link, Member, Named, Piece, Suffix};
 pub use operator::{ArrayForm, Assign, Binary, Count, Magic, Prefix};
+pub use power::{Grouping, Row, prefix_power_of, row_of};
 pub use script::{Script, ScriptItem};
 pub use spot::{Name, Spot, Word};
 pub use statement::{
