@@ -1,9 +1,9 @@
 -- What is known of each statement that was read, or can't be.
 use Rattle.std.proofs.Common.{◌≡◌, ◌≢◌, ℕ, Some, None, List, [], ◌∷◌, ◌++◌, map, refl, sym, ◌∙◌, ap, subst, arith, rules, append_assoc, append-nil}
-use Rattle.php_ast.specs.Expression.{Expression, Command, assign, echo, Statement, sum_view, statement_view, command_view}
-use Rattle.php_ast.specs.declared.first_path.Atom.{Atom}
-use Rattle.php_ast.specs.declared.first_path.Sum.{Sum}
-use Rattle.php_ast.specs.declared.first_path.Statement as trees
+use Rattle.php_first_tree.specs.Expression.{Expression, Command, assign, echo, Statement, sum_view, statement_view, command_view}
+use Rattle.php_first_tree.specs.declared.Atom.{Atom}
+use Rattle.php_first_tree.specs.declared.Sum.{Sum}
+use Rattle.php_first_tree.specs.declared.Statement as trees
 use Rattle.php_first_tokens.specs.declared.token.Lexeme.{Lexeme}
 use Rattle.php_first_tokens.specs.declared.token.Lexeme.TheVariants.{Variable, Int, Echo, Equals, Semicolon, Comma, Plus, Minus, Star, Open, Close}
 use Rattle.php_first_tokens.specs.declared.token.Token.{Token}

@@ -1,13 +1,13 @@
 -- What is known of each sum, product and group that was read, or can't be.
 use Rattle.std.proofs.Common.{◌≡◌, ◌≢◌, ◌<◌, ℕ, suc, ◌+◌, ◌-◌, Some, None, List, [], ◌∷◌, ◌++◌, length, refl, sym, ◌∙◌, ap, subst, arith, rules}
-use Rattle.php_ast.specs.Expression.{Expression, int, variable, group, times, plus, minus, joined, atom_view, product_view, sum_view}
-use Rattle.php_ast.specs.declared.first_path.Atom.{Atom}
-use Rattle.php_ast.specs.declared.first_path.Atom.TheVariants as atoms
-use Rattle.php_ast.specs.declared.first_path.Product.{Product}
-use Rattle.php_ast.specs.declared.first_path.Sum.{Sum}
-use Rattle.php_ast.specs.declared.first_path.Term.{Term}
-use Rattle.php_ast.specs.declared.first_path.Sign.{Sign}
-use Rattle.php_ast.specs.declared.first_path.Sign.TheVariants as sign
+use Rattle.php_first_tree.specs.Expression.{Expression, int, variable, group, times, plus, minus, joined, atom_view, product_view, sum_view}
+use Rattle.php_first_tree.specs.declared.Atom.{Atom}
+use Rattle.php_first_tree.specs.declared.Atom.TheVariants as atoms
+use Rattle.php_first_tree.specs.declared.Product.{Product}
+use Rattle.php_first_tree.specs.declared.Sum.{Sum}
+use Rattle.php_first_tree.specs.declared.Term.{Term}
+use Rattle.php_first_tree.specs.declared.Sign.{Sign}
+use Rattle.php_first_tree.specs.declared.Sign.TheVariants as sign
 use Rattle.php_first_tokens.specs.declared.token.Lexeme.{Lexeme}
 use Rattle.php_first_tokens.specs.declared.token.Lexeme.TheVariants.{Variable, Int, Echo, Equals, Semicolon, Comma, Plus, Minus, Star, Open, Close}
 use Rattle.php_first_tokens.specs.declared.token.Token.{Token}

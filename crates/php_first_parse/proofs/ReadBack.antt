@@ -2,8 +2,8 @@
 use Rattle.std.proofs.Common.{◌≡◌, ◌≢◌, ◌<◌, ℕ, suc, ◌+◌, ◌-◌, Option, Some, None, List, [], ◌∷◌, length, refl, ◌∙◌, ap, arith, rules}
 use Rattle.std.proofs.lemmas.Bool.{lt-ltb}
 use Rattle.std.specs.Prelude.{nat_lt, if◌then◌else◌}
-use Rattle.php_ast.specs.Expression.{Expression, int, variable, group, times, plus, minus, joined}
-use Rattle.php_ast.specs.declared.first_path.Sign.TheVariants as sign
+use Rattle.php_first_tree.specs.Expression.{Expression, int, variable, group, times, plus, minus, joined}
+use Rattle.php_first_tree.specs.declared.Sign.TheVariants as sign
 use Rattle.php_first_tokens.specs.declared.token.Lexeme.{Lexeme}
 use Rattle.php_first_tokens.specs.declared.token.Lexeme.TheVariants.{Variable, Int, Echo, Equals, Semicolon, Comma, Plus, Minus, Star, Open, Close}
 use Rattle.php_first_tokens.specs.declared.token.Token.{Token}

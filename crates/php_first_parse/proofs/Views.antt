@@ -1,13 +1,13 @@
 -- The expressions of trees that are made or grow.
 use Rattle.std.proofs.Common.{◌≡◌, ℕ, ℤ, List, [], ◌∷◌, ◌++◌, map, refl, sym, ◌∙◌, ap}
-use Rattle.php_ast.specs.declared.first_path.Atom.{Atom}
-use Rattle.php_ast.specs.declared.first_path.Atom.TheVariants.{Int, Variable, Group, rolls-Int, rolls-Variable, rolls-Group}
-use Rattle.php_ast.specs.declared.first_path.Atom.TheOpen.{Atom-F}
-use Rattle.php_ast.specs.declared.first_path.Atom.TheFolds.{fold-roll-Atom}
-use Rattle.php_ast.specs.declared.first_path.Product.{Product}
-use Rattle.php_ast.specs.declared.first_path.Sum.{Sum}
-use Rattle.php_ast.specs.declared.first_path.Term.{Term}
-use Rattle.php_ast.specs.Expression.{Expression, int, variable, group, times, product_from, product, joined, sum_from, atom_step, atom_view, term_parts, product_view, sum_view}
+use Rattle.php_first_tree.specs.declared.Atom.{Atom}
+use Rattle.php_first_tree.specs.declared.Atom.TheVariants.{Int, Variable, Group, rolls-Int, rolls-Variable, rolls-Group}
+use Rattle.php_first_tree.specs.declared.Atom.TheOpen.{Atom-F}
+use Rattle.php_first_tree.specs.declared.Atom.TheFolds.{fold-roll-Atom}
+use Rattle.php_first_tree.specs.declared.Product.{Product}
+use Rattle.php_first_tree.specs.declared.Sum.{Sum}
+use Rattle.php_first_tree.specs.declared.Term.{Term}
+use Rattle.php_first_tree.specs.Expression.{Expression, int, variable, group, times, product_from, product, joined, sum_from, atom_step, atom_view, term_parts, product_view, sum_view}
 
 pub view_int : (n : ℤ) → atom_view (Int n) ≡ int n
 view_int n = ap atom_view (sym (rolls-Int n)) ∙ fold-roll-Atom Expression atom_step (Atom-F.Int n)

@@ -1,10 +1,10 @@
 -- What the functions of the parser answer.
 use Rattle.std.specs.Prelude.{◌≡◌, ◌≢◌, ◌≤◌, ◌<◌, ℕ, ◌+◌, Option, Some, None, List, [], ◌∷◌, drop, length}
-use Rattle.php_ast.specs.Expression.{Expression, Command, Statement, command_view}
-use Rattle.php_ast.specs.declared.first_path.Atom.{Atom}
-use Rattle.php_ast.specs.declared.first_path.Sign.{Sign}
-use Rattle.php_ast.specs.declared.first_path.Sign.TheVariants as sign
-use Rattle.php_ast.specs.declared.first_path.Action.{Action}
+use Rattle.php_first_tree.specs.Expression.{Expression, Command, Statement, command_view}
+use Rattle.php_first_tree.specs.declared.Atom.{Atom}
+use Rattle.php_first_tree.specs.declared.Sign.{Sign}
+use Rattle.php_first_tree.specs.declared.Sign.TheVariants as sign
+use Rattle.php_first_tree.specs.declared.Action.{Action}
 use Rattle.php_first_tokens.specs.declared.token.Lexeme.{Lexeme}
 use Rattle.php_first_tokens.specs.declared.token.Lexeme.TheVariants as lexeme
 use Rattle.php_first_tokens.specs.declared.token.Token.{Token}

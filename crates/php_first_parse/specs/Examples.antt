@@ -1,6 +1,6 @@
 -- What the machine reads of some lists of lexemes.
 use Rattle.std.specs.Prelude.{◌≡◌, refl, pos, Option, Some, None, List, [], ◌∷◌, map}
-use Rattle.php_ast.specs.Expression.{int, variable, group, times, plus, minus, Command, assign, echo, Statement}
+use Rattle.php_first_tree.specs.Expression.{int, variable, group, times, plus, minus, Command, assign, echo, Statement}
 use Rattle.php_first_tokens.specs.declared.token.Lexeme.{Lexeme}
 use Rattle.php_first_tokens.specs.declared.token.Lexeme.TheVariants.{Variable, Int, Echo, Equals, Semicolon, Comma, Plus, Minus, Star, Open, Close}
 use Rattle.php_first_parse.specs.Spelling.{at_line}

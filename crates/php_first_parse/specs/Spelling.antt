@@ -5,7 +5,7 @@
 --   product = atom { "*" atom }
 --   atom    = INT | VARIABLE | "(" sum ")"
 use Rattle.std.specs.Prelude.{◌≡◌, ℕ, ◌<◌, ◌-◌, List, [], ◌∷◌}
-use Rattle.php_ast.specs.Expression.{Expression, int, variable, group, times, plus, minus, Command, assign, echo, Statement}
+use Rattle.php_first_tree.specs.Expression.{Expression, int, variable, group, times, plus, minus, Command, assign, echo, Statement}
 use Rattle.php_first_tokens.specs.declared.token.Lexeme.{Lexeme}
 use Rattle.php_first_tokens.specs.declared.token.Lexeme.TheVariants.{Variable, Int, Echo, Equals, Semicolon, Comma, Plus, Minus, Star, Open, Close}
 use Rattle.php_first_tokens.specs.declared.token.Token.{Token}

@@ -1,15 +1,15 @@
 //! Statements, and the whole that they make.
 
 ghost use Rattle.std.specs.Prelude.{◌≡◌, ◌≤◌, ◌<◌, ◌+◌, ◌-◌, ℕ, List, map, length, Some, IfOk, IfSome, IsSomeAnd};
-ghost use Rattle.php_ast.specs.Expression as shown;
+ghost use Rattle.php_first_tree.specs.Expression as shown;
 ghost use Rattle.php_first_tokens.specs.declared.token.Lexeme.TheVariants as lexeme;
 ghost use Rattle.php_first_parse.specs.Spelling.{IsSpelling};
 ghost use Rattle.php_first_parse.specs.Answers as answer;
 
 use crate::sums::{Read, sees, sum, token_at};
-use php_ast::first_path::{Action, Statement};
 use php_base::NoMemory;
 use php_first_tokens::{Lexeme, Token};
+use php_first_tree::{Action, Statement};
 use sqlite_items::Items;
 use std::alloc::Global;
 

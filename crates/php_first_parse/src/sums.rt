@@ -1,13 +1,13 @@
 //! Sums, products and atoms, each read from a place in the tokens on.
 
 ghost use Rattle.std.specs.Prelude.{◌≡◌, ◌≤◌, ◌<◌, ◌+◌, ◌-◌, ◌*◌, ℕ, drop, length, true, false, Some, IfOk};
-ghost use Rattle.php_ast.specs.Expression.{atom_view, product_view, sum_view};
+ghost use Rattle.php_first_tree.specs.Expression.{atom_view, product_view, sum_view};
 ghost use Rattle.php_first_parse.specs.Spelling as level;
 ghost use Rattle.php_first_parse.specs.Answers as answer;
 
-use php_ast::first_path::{Atom, Product, Sign, Sum, Term};
 use php_base::NoMemory;
 use php_first_tokens::{Lexeme, Token};
+use php_first_tree::{Atom, Product, Sign, Sum, Term};
 use sqlite_items::{Boxed, Items};
 use std::alloc::Global;
 

@@ -4,12 +4,12 @@ use Rattle.std.proofs.lemmas.List.{take-append-drop, append_assoc, append-nil}
 use Rattle.php_base.specs.Written.{GrewBy, GrewByPart}
 use Rattle.php_base.specs.Counts.{Rose}
 use Rattle.php_base.proofs.Growth.{grew-twice}
-use Rattle.php_ast.specs.Expression.{sum_view, statement_view, command_view}
-use Rattle.php_ast.specs.declared.first_path.Statement.{Statement}
-use Rattle.php_ast.specs.declared.first_path.Atom.{Atom}
-use Rattle.php_ast.specs.declared.first_path.Sum.{Sum}
+use Rattle.php_first_tree.specs.Expression.{sum_view, statement_view, command_view}
+use Rattle.php_first_tree.specs.declared.Statement.{Statement}
+use Rattle.php_first_tree.specs.declared.Atom.{Atom}
+use Rattle.php_first_tree.specs.declared.Sum.{Sum}
 use Rattle.php_first_run.specs.Evaluation.{evaluated}
-use Rattle.php_ast.specs.Expression as meaning
+use Rattle.php_first_tree.specs.Expression as meaning
 use Rattle.php_first_run.specs.Running.{cut_off, overflowed, Effect, Outcome, part_written, echoed, text_of, step, run, followed_by}
 use Rattle.php_first_run.proofs.Lists.{drop_at}
 use Rattle.php_first_run.specs.Walking.{Stream, IsFront, AllWritten, BrokenOff}

@@ -1,7 +1,7 @@
 -- What expressions are worth.
 use Rattle.std.specs.Prelude.{ℕ, ℤ, pos, ◌+ℤ◌, ◌-ℤ◌, ◌*ℤ◌, List, Option, Some, None, slice_get, unwrap_or, if◌then◌else◌}
 use Rattle.php_value.specs.Decimal.{fits_int}
-use Rattle.php_ast.specs.Expression.{Expression, int, variable, group, times, plus, minus}
+use Rattle.php_first_tree.specs.Expression.{Expression, int, variable, group, times, plus, minus}
 use Rattle.php_first_run.specs.declared.value.Value.{Value}
 use Rattle.php_first_run.specs.declared.value.Value.TheVariants.{Null, Int}
 

@@ -1,7 +1,7 @@
 -- How statements run.
 use Rattle.std.specs.Prelude.{ℕ, ◌+◌, Bool, true, false, nat_lt, List, [], ◌∷◌, ◌++◌, Option, Some, None, slice_set, if◌then◌else◌}
 use Rattle.std.specs.Fmt.{signed_decimal}
-use Rattle.php_ast.specs.Expression.{Expression, Command, assign, echo, Statement}
+use Rattle.php_first_tree.specs.Expression.{Expression, Command, assign, echo, Statement}
 use Rattle.php_first_run.specs.declared.value.Value.{Value}
 use Rattle.php_first_run.specs.declared.value.Value.TheVariants.{Null, Int}
 use Rattle.php_first_run.specs.Evaluation.{evaluated}

@@ -1,11 +1,11 @@
 ghost use Rattle.std.specs.Prelude.{◌≡◌, ◌+ℤ◌, ◌-ℤ◌, ◌*ℤ◌, false};
-ghost use Rattle.php_ast.specs.Expression.{atom_view, product_view, sum_view};
+ghost use Rattle.php_first_tree.specs.Expression.{atom_view, product_view, sum_view};
 ghost use Rattle.php_value.specs.Operator.{arith_of, makes_text};
 ghost use Rattle.php_first_run.specs.Evaluation.{calculated, evaluated, value_at};
 ghost use Rattle.php_first_run.specs.Scalars.{int_in, scalar_of};
 
 use crate::value::Value;
-use php_ast::first_path::{Atom, Product, Sign, Sum};
+use php_first_tree::{Atom, Product, Sign, Sum};
 use php_value::{Op, Scalar, arith};
 use std::alloc::Global;
 

@@ -1,6 +1,6 @@
 ghost use Rattle.std.specs.Prelude.{◌≡◌, map, OnOk, OnErr};
 ghost use Rattle.php_base.specs.Written.{GrewBy};
-ghost use Rattle.php_ast.specs.Expression.{command_view, statement_view, sum_view};
+ghost use Rattle.php_first_tree.specs.Expression.{command_view, statement_view, sum_view};
 ghost use Rattle.php_first_run.specs.Evaluation.{evaluated};
 ghost use Rattle.php_first_run.specs.Running.{assigned, echoed, run, step, text_of};
 ghost use Rattle.php_first_run.specs.Walking.{AllWritten, Assigns, BrokenOff, Executes, Walks};
@@ -8,8 +8,8 @@ ghost use Rattle.php_first_run.specs.Walking.{AllWritten, Assigns, BrokenOff, Ex
 use crate::evaluate::evaluate;
 use crate::value::Value;
 use itoa::Buffer;
-use php_ast::first_path::{Action, Atom, Statement, Sum};
 use php_base::{Failed, Sink, put_all};
+use php_first_tree::{Action, Atom, Statement, Sum};
 use std::alloc::Global;
 
 /// How a run stopped.

@@ -2,7 +2,7 @@
 use Rattle.std.specs.Prelude.{◌≡◌, ℕ, ◌<◌, ◌≤◌, List, [], ◌++◌, length, Option, Some, None, codes, replicate}
 use Rattle.std.specs.Fmt.{decimal}
 use Rattle.php_value.specs.declared.fault.Fault.TheVariants as fault
-use Rattle.php_ast.specs.Expression.{Statement}
+use Rattle.php_first_tree.specs.Expression.{Statement}
 use Rattle.php_first_run.specs.Running.{Outcome, Ending, completed, overflowed, cut_off, run}
 use Rattle.php_first_run.specs.declared.value.Value.TheVariants.{Null}
 use Rattle.php_run.specs.Words.{Request, shape}

@@ -2,8 +2,8 @@
 use Rattle.std.specs.Prelude.{◌≡◌, ℕ, ◌≤◌, Bool, true, false, ◌&&◌, not, nat_le, List, length, codes, map, Option, Some, None}
 use Rattle.std.specs.List.{list_all}
 use Rattle.std.specs.Str.{bytes_eq}
-use Rattle.php_ast.specs.Expression.{Statement, statement_view}
-use Rattle.php_ast.specs.declared.first_path.Script.{Script}
+use Rattle.php_first_tree.specs.Expression.{Statement, statement_view}
+use Rattle.php_first_tree.specs.declared.Script.{Script}
 use Rattle.php_first_tokens.specs.declared.token.Token.{Token}
 use Rattle.php_first_tokens.specs.Cut.{IsCut}
 use Rattle.php_first_parse.specs.Spelling.{IsSpelling}

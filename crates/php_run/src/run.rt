@@ -1,5 +1,5 @@
 ghost use Rattle.std.specs.Prelude.{◌≡◌, ℕ, ◌+◌, ◌≤◌, List, [], Some, IfOk, map, replicate, length, take};
-ghost use Rattle.php_ast.specs.Expression.{statement_view};
+ghost use Rattle.php_first_tree.specs.Expression.{statement_view};
 ghost use Rattle.php_base.specs.Files.{File};
 ghost use Rattle.php_first_run.specs.declared.value.Value.TheVariants.{Null};
 ghost use Rattle.php_run.specs.Answer.{answer_of, run_of};
@@ -16,9 +16,9 @@ use crate::message::put_message;
 use crate::report::{Kind, Report};
 use crate::script::read_script;
 use crate::words::{Request, requested};
-use php_ast::first_path::Script;
 use php_base::{NoMemory, Shelf, ShelfFail, Sink};
 use php_first_run::{Value, walk};
+use php_first_tree::Script;
 use std::alloc::Global;
 
 /// The greatest length of a script, in bytes.

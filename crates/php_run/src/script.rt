@@ -1,13 +1,13 @@
 ghost use Rattle.std.specs.Prelude.{◌≡◌, ◌≤◌, ℕ, List, length, map, IfOk, IfSome};
 ghost use Rattle.std.specs.List.{list_all};
-ghost use Rattle.php_ast.specs.Expression.{Statement as StatementMeant, statement_view};
+ghost use Rattle.php_first_tree.specs.Expression.{Statement as StatementMeant, statement_view};
 ghost use Rattle.php_first_tokens.specs.Steps.{names_of};
 ghost use Rattle.php_run.specs.Script.{IsRead, IsScript, is_allowed, permits};
 
-use php_ast::first_path::Script;
 use php_base::NoMemory;
 use php_first_parse::parse;
 use php_first_tokens::cut_file;
+use php_first_tree::Script;
 use std::alloc::Global;
 
 /// The greatest number of different variables in a script.

@@ -1,5 +1,5 @@
 use Rattle.std.proofs.Common.{refl}
-use Rattle.php_ast.specs.Expression.{sum_view}
+use Rattle.php_first_tree.specs.Expression.{sum_view}
 use Rattle.php_first_parse.proofs.Commands.{value_open}
 use Rattle.php_first_parse.proofs.statements.assignment.Goals as goal
 

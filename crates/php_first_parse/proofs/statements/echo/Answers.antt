@@ -1,5 +1,5 @@
 use Rattle.std.proofs.Common.{◌∙◌, refl, arith}
-use Rattle.php_ast.specs.Expression.{sum_view}
+use Rattle.php_first_tree.specs.Expression.{sum_view}
 use Rattle.php_first_parse.proofs.Commands.{part_open, part_read, part_spells, echoed}
 use Rattle.php_first_parse.proofs.statements.echo.Goals as goal
 

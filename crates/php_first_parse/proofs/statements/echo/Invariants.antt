@@ -1,5 +1,5 @@
 use Rattle.std.proofs.Common.{◌≡◌, ◌≤◌, ◌-◌, ℕ, List, [], ◌∷◌, ◌++◌, Some, drop, length, map}
-use Rattle.php_ast.specs.Expression.{Expression, Statement, sum_view}
+use Rattle.php_first_tree.specs.Expression.{Expression, Statement, sum_view}
 use Rattle.php_first_tokens.specs.declared.token.Token.{Token}
 use Rattle.php_first_parse.specs.Spelling.{SpellsParts}
 use Rattle.php_first_parse.specs.Machine.{wants, part, fresh, run}

@@ -1,6 +1,6 @@
 use Rattle.std.proofs.Common.{map}
-use Rattle.php_ast.specs.Expression.{statement_view}
-use Rattle.php_ast.specs.declared.first_path.Statement as trees
+use Rattle.php_first_tree.specs.Expression.{statement_view}
+use Rattle.php_first_tree.specs.declared.Statement as trees
 use Rattle.php_first_parse.proofs.Commands.{statement_spells, statement_leads, none_spelled, all_spelled, no_others, one_reading}
 use Rattle.php_first_parse.proofs.statements.parse.Goals as goal
 

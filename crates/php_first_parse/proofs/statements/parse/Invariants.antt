@@ -1,5 +1,5 @@
 use Rattle.std.proofs.Common.{◌≡◌, ◌≤◌, ◌-◌, List, ◌++◌, Some, drop, length, map}
-use Rattle.php_ast.specs.Expression.{Statement, statement_view}
+use Rattle.php_first_tree.specs.Expression.{Statement, statement_view}
 use Rattle.php_first_parse.specs.Spelling.{IsSpelling}
 use Rattle.php_first_parse.specs.Machine.{due, run, read}
 use Rattle.php_first_parse.proofs.statements.parse.Given as goal

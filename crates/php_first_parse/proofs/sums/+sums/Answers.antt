@@ -1,5 +1,5 @@
 use Rattle.std.proofs.Common.{refl, arith}
-use Rattle.php_ast.specs.Expression.{product_view, sum_view}
+use Rattle.php_first_tree.specs.Expression.{product_view, sum_view}
 use Rattle.php_first_parse.proofs.Levels.{unclosed, closed, factor_missing, factor_read, one_product, term_missing, term_read}
 use Rattle.php_first_parse.proofs.sums.+sums.Goals as goal
 

@@ -1,5 +1,5 @@
 use Rattle.std.proofs.Common.{◌≤◌, ◌<◌, ◌+◌, ◌-◌, ◌*◌, drop, length}
-use Rattle.php_ast.specs.Expression.{product_view, sum_view}
+use Rattle.php_first_tree.specs.Expression.{product_view, sum_view}
 use Rattle.php_first_tokens.specs.declared.token.Lexeme.TheVariants.{Star}
 use Rattle.php_first_parse.specs.Spelling.{product, sum, SpellsAt}
 use Rattle.php_first_parse.specs.Answers.{HeadIsNot}

@@ -1,5 +1,5 @@
 use Rattle.std.proofs.Common.{◌≡◌, ℕ, ◌+◌, ◌*◌, Some, drop, map}
-use Rattle.php_ast.specs.Expression.{atom_view, product_view, sum_view, term_parts}
+use Rattle.php_first_tree.specs.Expression.{atom_view, product_view, sum_view, term_parts}
 use Rattle.php_first_run.specs.Evaluation.{evaluated}
 use Rattle.php_first_run.proofs.Folds.{parentheses, product_value, sum_value}
 use Rattle.php_first_run.proofs.evaluate.+sums.Given as goal

@@ -1,6 +1,6 @@
 use Rattle.std.proofs.Common.{◌≡◌, ℕ, ◌+◌, ◌≤◌, sym, ap, ◌∙◌, subst, drop, map}
 use Rattle.std.proofs.lemmas.Bool.{lt-ltb}
-use Rattle.php_ast.specs.Expression.{command_view, statement_view}
+use Rattle.php_first_tree.specs.Expression.{command_view, statement_view}
 use Rattle.php_first_run.specs.Running.{Outcome, step, run}
 use Rattle.php_first_run.proofs.Written.{wrote_broken, wrote_more, run-at, run-on, run-ticks, followed_by-output, followed_by-ticks}
 use Rattle.php_first_run.proofs.walking.walk.Goals as goal

@@ -1,5 +1,5 @@
 use Rattle.std.proofs.Common.{◌≡◌, ℕ, ◌≤◌, map, drop}
-use Rattle.php_ast.specs.Expression.{statement_view}
+use Rattle.php_first_tree.specs.Expression.{statement_view}
 use Rattle.php_first_run.specs.Running.{run}
 use Rattle.php_first_run.proofs.Written.{RunSoFar}
 use Rattle.php_first_run.proofs.walking.walk.Given as goal

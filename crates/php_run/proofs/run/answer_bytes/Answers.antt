@@ -1,5 +1,5 @@
 use Rattle.std.proofs.Common.{◌≡◌, ◌≤◌, ℕ, List, [], length, map, Some, None, subst, sym, refl, arith}
-use Rattle.php_ast.specs.Expression.{statement_view, Statement}
+use Rattle.php_first_tree.specs.Expression.{statement_view, Statement}
 use Rattle.php_first_run.specs.Walking.{Stream}
 use Rattle.php_first_run.proofs.Written.{nothing_written}
 use Rattle.php_run.specs.Answer.{answer_of, run_of, too_many, read, runs, refused, IsOwedFor}

@@ -1,7 +1,7 @@
 use Rattle.std.proofs.Common.{◌≡◌, ℕ, List, map, subst, ◌∙◌}
-use Rattle.php_ast.specs.Expression.{statement_view}
+use Rattle.php_first_tree.specs.Expression.{statement_view}
 use Rattle.php_first_run.specs.Running.{run}
-use Rattle.php_ast.specs.declared.first_path.Statement as tree
+use Rattle.php_first_tree.specs.declared.Statement as tree
 use Rattle.php_first_run.specs.Walking.{Stream, Walks}
 use Rattle.php_first_run.specs.declared.value.Value.{Value}
 use Rattle.php_run.specs.Answer.{answer_of}

@@ -1,4 +1,5 @@
-//! The trees of the first language that runs: integer variables, sums and `echo`.
+// The trees of the first language that runs: integer variables, sums and `echo`.
+#![tactic(auto)]
 
 use sqlite_items::{Boxed, Items};
 

@@ -1,15 +1,15 @@
 -- Expressions of the first language: what is computed, with products before sums and both from the left.
 use Rattle.std.specs.Prelude.{ℕ, ℤ, List, [], ◌∷◌, map}
-use Rattle.php_ast.specs.declared.first_path.Atom.{Atom, fold-Atom}
-use Rattle.php_ast.specs.declared.first_path.Atom.TheOpen.{Atom-F}
-use Rattle.php_ast.specs.declared.first_path.Product.{Product}
-use Rattle.php_ast.specs.declared.first_path.Sum.{Sum}
-use Rattle.php_ast.specs.declared.first_path.Term.{Term}
-use Rattle.php_ast.specs.declared.first_path.Sign.{Sign}
-use Rattle.php_ast.specs.declared.first_path.Sign.TheVariants.{Plus, Minus}
-use Rattle.php_ast.specs.declared.first_path.Action.{Action}
-use Rattle.php_ast.specs.declared.first_path.Action.TheVariants.{Assign, Echo}
-use Rattle.php_ast.specs.declared.first_path.Statement as tree
+use Rattle.php_first_tree.specs.declared.Atom.{Atom, fold-Atom}
+use Rattle.php_first_tree.specs.declared.Atom.TheOpen.{Atom-F}
+use Rattle.php_first_tree.specs.declared.Product.{Product}
+use Rattle.php_first_tree.specs.declared.Sum.{Sum}
+use Rattle.php_first_tree.specs.declared.Term.{Term}
+use Rattle.php_first_tree.specs.declared.Sign.{Sign}
+use Rattle.php_first_tree.specs.declared.Sign.TheVariants.{Plus, Minus}
+use Rattle.php_first_tree.specs.declared.Action.{Action}
+use Rattle.php_first_tree.specs.declared.Action.TheVariants.{Assign, Echo}
+use Rattle.php_first_tree.specs.declared.Statement as tree
 
 pub data Expression : Type 0 where
   int : ℤ → Expression
