@@ -1,4 +1,5 @@
 pub mod CommentLemmas
+pub mod CutLemmas
 pub mod KeepLemmas
 pub mod NumberLemmas
 pub mod ReadingLemmas

@@ -25,7 +25,7 @@ read_goes n state line b text p found len h =
     ∙ ap (λ k. put_before (tokens_of line p) (read_from k (changed p.change state) (line_after line b) text)) left
     ∙ ap (put_before (tokens_of line p)) (read_from-drop n (changed p.change state) (line_after line b) text h)
 
-put_before-append : (a b : List Token) (rest : Result (List Token) LexFail) → put_before a (put_before b rest) ≡ put_before (a ++ b) rest
+pub put_before-append : (a b : List Token) (rest : Result (List Token) LexFail) → put_before a (put_before b rest) ≡ put_before (a ++ b) rest
 put_before-append a b (Ok tokens) = ap Ok (sym (append_assoc a b tokens))
 put_before-append a b (Err fault) = refl
 
@@ -33,7 +33,7 @@ pub put_before-nil : (rest : Result (List Token) LexFail) → put_before [] rest
 put_before-nil (Ok tokens) = refl
 put_before-nil (Err fault) = refl
 
-at_front : (state : State) (line : ℕ) (text : Text) (p : Piece) → piece (mode_of state) line text ≡ Ok p → 0 < p.len → p.len ≤ length text
+pub at_front : (state : State) (line : ℕ) (text : Text) (p : Piece) → piece (mode_of state) line text ≡ Ok p → 0 < p.len → p.len ≤ length text
     → read_from 0 state line text ≡ put_before (tokens_of line p) (read_from 0 (changed p.change state) (lines_after line (take p.len text)) (drop p.len text))
 at_front state line [] p found some within = absurd (omega arith)
 at_front state line (b ∷ text) p found some within =

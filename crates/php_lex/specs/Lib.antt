@@ -1,5 +1,6 @@
 pub mod Bytes
 pub mod Comments
+pub mod Cut
 pub mod Delimiters
 pub mod Entry
 pub mod Examples

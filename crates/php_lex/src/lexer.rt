@@ -1,6 +1,8 @@
 // The loop that cuts a script's bytes piece by piece.
 
-ghost use Rattle.std.specs.Prelude.{◌≡◌, ◌<◌, ◌≤◌, ◌+◌, ◌^◌, length, OnOk};
+ghost use Rattle.std.specs.Prelude.{◌≡◌, ◌⊎◌, ◌<◌, ◌≤◌, ◌+◌, ◌^◌, List, length, OnOk, IfOk, IfErr};
+ghost use Rattle.php_lex.specs.Bytes.{Text};
+ghost use Rattle.php_lex.specs.Cut.{Cuts, Stops};
 ghost use Rattle.php_lex.specs.Entry.{AllWithin};
 ghost use Rattle.php_lex.specs.Modes.{changed};
 ghost use Rattle.php_lex.specs.PieceKept.{change_kept};
@@ -73,7 +75,9 @@ fn step<'a>(
 /// Cuts a script into tokens, or answers the first fault in it.
 pub fn lex(alloc: Global, src: &[u8]) -> Result<Tokens, LexFail>
     requires { length src.now ≤ 1048576 }
-    ensures { spec.Lexes result (spec.tokens src.now) }
+    ensures tokens { spec.Lexes result (spec.tokens src.now) }
+    ensures cut { IfOk result (λ found. (pieces : List Text) × Cuts src.now pieces found) }
+    ensures fault { IfErr result (λ fault. (fault ≡ LexFail.NoMemory) ⊎ Stops src.now fault) }
 {
     let mut out = Builder::new(alloc);
     let mut modes = Modes::new(alloc);

@@ -7,6 +7,7 @@ mod escapes;
 mod fail;
 mod heredocs;
 mod kind;
+mod laws;
 mod lexer;
 mod modes;
 mod numbers;
@@ -18,5 +19,6 @@ mod words;
 
 pub use fail::LexFail;
 pub use kind::{Cast, Keyword, Punct, TokenKind};
+pub use laws::{at_most_one_cut, cut_decides};
 pub use lexer::lex;
 pub use tokens::Tokens;

@@ -1,10 +1,11 @@
-use Rattle.std.proofs.Common.{◌≡◌, ◌+◌, ◌<◌, ◌≤◌, ◌++◌, ◌∷◌, length, take, drop, ap, ◌∙◌, subst, arith, length-drop, length-take-le}
+use Rattle.std.proofs.Common.{◌≡◌, ◌+◌, ◌<◌, ◌≤◌, ◌++◌, ◌∷◌, length, take, drop, sym, ap, ◌∙◌, inl, inr, ⊎_elim, subst, arith, length-drop, length-take-le}
 use Rattle.std.proofs.lemmas.List.{take_rest}
 use Rattle.php_lex.specs.Entry.{tokens_in}
 use Rattle.php_lex.specs.Modes.{outside, changed}
 use Rattle.php_lex.specs.Reading.{put_before, read_from, tokens, tokens_of, lines_after}
+use Rattle.php_lex.proofs.CutLemmas.{CutTo, cut_starts, cut_more, cut_stops}
 use Rattle.php_lex.proofs.KeepLemmas.{none_within}
-use Rattle.php_lex.proofs.ReadingLemmas.{put_before-nil, read_more}
+use Rattle.php_lex.proofs.ReadingLemmas.{put_before-nil, read_more, read_faulty}
 use Rattle.php_lex.proofs.RunLemmas.{part}
 use Rattle.php_lex.proofs.lexer.lex.Goals as goal
 
@@ -20,6 +21,7 @@ loop-at-init c =
           ∙ put_before-nil (read_from 0 c.enter.new.self 1 src) ∙ ap (λ m. read_from 0 m 1 src) modes;
       within = omega arith;
       lines = omega arith;
+      cut = cut_starts src c.enter.new.self (tokens_in out.decoded.items out.entries.items) modes (ap (tokens_in out.decoded.items) c.new-out.ensures.entries);
     }
 
 pub loop-at-preserved : goal.loop-at-preserved
@@ -45,4 +47,28 @@ loop-at-preserved c =
           ∙ more ∙ old.invariant.read;
       within = within;
       lines = omega (arith, c.lines_after-line.ensures.within, old.invariant.lines, length-take-le len (part src old.at) fits);
+      cut =
+          let more = cut_more src old.at old.modes old.line before p old.invariant.cut t.found (subst (λ n. 0 < n) t.len_is t.within.0) (subst (λ n. n ≤ length (part src old.at)) t.len_is fits) in
+          subst (λ ts. CutTo src (old.at + len) new.modes c.lines_after-line.result ts) (sym t.added.told)
+          (subst (λ m. CutTo src (old.at + len) m c.lines_after-line.result (before ++ tokens_of old.line p)) (sym t.state)
+          (subst (λ l. CutTo src (old.at + len) (changed p.change old.modes) l (before ++ tokens_of old.line p)) (sym line_is)
+          (subst (λ n. CutTo src (old.at + n) (changed p.change old.modes) (lines_after old.line (take p.len (part src old.at))) (before ++ tokens_of old.line p)) (sym t.len_is) more)));
     }
+
+pub returns-in-Err-clause-tokens : goal.returns-in-Err-clause-tokens
+returns-in-Err-clause-tokens c =
+    let old = c.loop-at in
+    let before = tokens_in old.out.decoded.items old.out.entries.items in
+    ⊎_elim
+    (λ e. inl e)
+    (λ e. inr (sym old.invariant.read ∙ read_faulty before old.modes old.line c.args.src.now old.at c.in-Err.fault c.loop-at-test.true e))
+    c.in-Err.ensures
+
+pub returns-in-Err-clause-fault : goal.returns-in-Err-clause-fault
+returns-in-Err-clause-fault c =
+    let old = c.loop-at in
+    let before = tokens_in old.out.decoded.items old.out.entries.items in
+    ⊎_elim
+    (λ e. inl e)
+    (λ e. inr (cut_stops c.args.src.now old.at old.modes old.line before c.in-Err.fault old.invariant.cut c.loop-at-test.true e))
+    c.in-Err.ensures
