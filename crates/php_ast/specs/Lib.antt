@@ -1,4 +1,3 @@
-pub mod Expression
 pub mod Symbol
 pub mod Operators
 pub mod Tree

@@ -3,7 +3,9 @@
 
 mod declaration;
 mod expression;
-pub mod first_path;
+
+pub use php_first_tree as first_path;
+
 pub mod laws;
 mod operator;
 mod power;

@@ -1,9 +1,9 @@
 -- A machine that reads statements one token at a time. It says of no token what it said before, and
 -- never goes back: its runs recurse on the tokens.
-use Rattle.std.specs.Prelude.{◌≡◌, ℕ, ◌+◌, ◌-◌, ◌<◌, Bool, true, false, nat_lt, List, [], ◌∷◌, ◌++◌, length, Option, Some, None, if◌then◌else◌}
-use Rattle.php_ast.specs.Expression.{Expression, int, variable, group, times, joined, Command, assign, echo, Statement}
-use Rattle.php_ast.specs.declared.first_path.Sign.{Sign}
-use Rattle.php_ast.specs.declared.first_path.Sign.TheVariants as sign
+use Rattle.std.specs.Prelude.{ℕ, nat_lt, List, [], ◌∷◌, ◌++◌, length, Option, Some, None, if◌then◌else◌}
+use Rattle.php_first_tree.specs.Expression.{Expression, int, variable, group, times, joined, Command, assign, echo, Statement}
+use Rattle.php_first_tree.specs.declared.Sign.{Sign}
+use Rattle.php_first_tree.specs.declared.Sign.TheVariants as sign
 use Rattle.php_first_tokens.specs.declared.token.Lexeme.{Lexeme}
 use Rattle.php_first_tokens.specs.declared.token.Lexeme.TheVariants.{Variable, Int, Echo, Equals, Semicolon, Comma, Plus, Minus, Star, Open, Close}
 use Rattle.php_first_tokens.specs.declared.token.Token.{Token}

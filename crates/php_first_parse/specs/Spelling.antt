@@ -5,7 +5,7 @@
 --   product = atom { "*" atom }
 --   atom    = INT | VARIABLE | "(" sum ")"
 use Rattle.std.specs.Prelude.{◌≡◌, ℕ, ◌<◌, ◌-◌, List, [], ◌∷◌}
-use Rattle.php_ast.specs.Expression.{Expression, int, variable, group, times, plus, minus, Command, assign, echo, Statement}
+use Rattle.php_first_tree.specs.Expression.{Expression, int, variable, group, times, plus, minus, Command, assign, echo, Statement}
 use Rattle.php_first_tokens.specs.declared.token.Lexeme.{Lexeme}
 use Rattle.php_first_tokens.specs.declared.token.Lexeme.TheVariants.{Variable, Int, Echo, Equals, Semicolon, Comma, Plus, Minus, Star, Open, Close}
 use Rattle.php_first_tokens.specs.declared.token.Token.{Token}
@@ -53,11 +53,15 @@ Spells (times l r) tokens rest = (a : ℕ) × (right : List Token) × Spells l t
 Spells (plus l r) tokens rest = (a : ℕ) × (right : List Token) × Spells l tokens (at_line Plus a ∷ right) × Spells r right rest
 Spells (minus l r) tokens rest = (a : ℕ) × (right : List Token) × Spells l tokens (at_line Minus a ∷ right) × Spells r right rest
 
--- a spelled sum with at most 128 parentheses open at once
-pub record SpellsSum (e : Expression) (tokens rest : List Token) : Type 0 where
-  pub grouped : Fits sum e
-  pub within : Within 128 e
+-- A spelled expression that has a place at the level, with at most so many parentheses open at once.
+pub record SpellsAt (level : Level) (depth : ℕ) (e : Expression) (tokens rest : List Token) : Type 0 where
+  pub grouped : Fits level e
+  pub within : Within depth e
   pub spelled : Spells e tokens rest
+
+-- a spelled sum with at most 128 parentheses open at once
+abbrev pub SpellsSum : Expression → List Token → List Token → Type 0
+SpellsSum = SpellsAt sum 128
 
 -- the parts of an `echo`, at least one, with commas between them
 abbrev pub SpellsParts : List Expression → List Token → List Token → Type 0

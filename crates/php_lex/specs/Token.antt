@@ -10,6 +10,9 @@ pub record Token : Type 0 where
   pub int : ℤ
   pub line : ℕ
 
+abbrev pub the_token : TokenKind → List ℕ → ℤ → ℕ → Token
+the_token kind text int line = record { kind = kind; text = text; int = int; line = line }
+
 -- what stands past the end of a list of tokens
 abbrev pub no_token : Token
 no_token = record { kind = Inline; text = []; int = pos 0; line = 0 }
