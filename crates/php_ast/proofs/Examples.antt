@@ -12,7 +12,7 @@ use Rattle.php_ast.specs.Tree.{append, instance, variable, int, name, parenthese
 use Rattle.php_ast.specs.Spelling.{spell}
 use Rattle.php_ast.specs.Proper.{Proper}
 use Rattle.php_ast.specs.Nesting.{nests}
-use Rattle.php_ast.specs.Machine.{Form, Outcome, any, any_symbol, read}
+use Rattle.php_ast.specs.Machine.{Form, Reading, any, any_symbol, read}
 
 -- ---- shorthand: `$x`, small integers, the name `f`, and a reading of all symbols
 
@@ -34,8 +34,8 @@ f = leaf tt (name (102 ∷ []))
 abbrev sf : Symbol
 sf = symbol.name (102 ∷ [])
 
-abbrev whole : Form → Outcome
-whole e = record { tree = e; lacked = []; left = [] }
+abbrev whole : Form → Reading
+whole e = record { tree = e; missing = []; unread = [] }
 
 -- ---- powers
 
@@ -82,11 +82,11 @@ printed = refl
 
 -- `1 < 2 < 3` stops at the second `<`, and so does `print 1 < 2 < 3`
 ungrouped_twice : read (si 1 ∷ punct mark.Less ∷ si 2 ∷ punct mark.Less ∷ si 3 ∷ [])
-    ≡ record { tree = binary op.Less (i 1) (i 2); lacked = []; left = punct mark.Less ∷ si 3 ∷ [] }
+    ≡ record { tree = binary op.Less (i 1) (i 2); missing = []; unread = punct mark.Less ∷ si 3 ∷ [] }
 ungrouped_twice = refl
 
 ungrouped_printed : read (keyword word.Print ∷ si 1 ∷ punct mark.Less ∷ si 2 ∷ punct mark.Less ∷ si 3 ∷ [])
-    ≡ record { tree = prefix tt pre.Print (binary op.Less (i 1) (i 2)); lacked = []; left = punct mark.Less ∷ si 3 ∷ [] }
+    ≡ record { tree = prefix tt pre.Print (binary op.Less (i 1) (i 2)); missing = []; unread = punct mark.Less ∷ si 3 ∷ [] }
 ungrouped_printed = refl
 
 ungrouped_left-improper : Proper (binary op.Less (binary op.Less (i 1) (i 2)) (i 3)) → ⊥
@@ -113,7 +113,7 @@ yielded_twice = refl
 
 -- `yield;` and `(yield)`, and `yield +` begins a sign
 yielded_nothing : read (keyword word.Yield ∷ punct mark.Semicolon ∷ [])
-    ≡ record { tree = yield_nothing tt; lacked = []; left = punct mark.Semicolon ∷ [] }
+    ≡ record { tree = yield_nothing tt; missing = []; unread = punct mark.Semicolon ∷ [] }
 yielded_nothing = refl
 
 yielded_in_parentheses : read (punct mark.LeftParen ∷ keyword word.Yield ∷ punct mark.RightParen ∷ []) ≡ whole (enclosed tt parentheses (yield_nothing tt))
@@ -133,7 +133,7 @@ new_in_parentheses : read (punct mark.LeftParen ∷ keyword word.New ∷ sf ∷ 
 new_in_parentheses = refl
 
 new_stops : read (keyword word.New ∷ sf ∷ punct mark.Arrow ∷ symbol.name (100 ∷ []) ∷ [])
-    ≡ record { tree = new tt (class_name tt (102 ∷ [])); lacked = []; left = punct mark.Arrow ∷ symbol.name (100 ∷ []) ∷ [] }
+    ≡ record { tree = new tt (class_name tt (102 ∷ [])); missing = []; unread = punct mark.Arrow ∷ symbol.name (100 ∷ []) ∷ [] }
 new_stops = refl
 
 -- `"x$b[0]{$c}"`
@@ -146,8 +146,8 @@ text_with_parts = refl
 class_by_call : read (sv 120 ∷ keyword word.InstanceOf ∷ sf ∷ punct mark.LeftParen ∷ punct mark.RightParen ∷ punct mark.Semicolon ∷ [])
     ≡ record {
       tree = instance (v 120) (append (call f none));
-      lacked = punct mark.LeftBracket ∷ punct mark.RightBracket ∷ [];
-      left = punct mark.Semicolon ∷ [];
+      missing = punct mark.LeftBracket ∷ punct mark.RightBracket ∷ [];
+      unread = punct mark.Semicolon ∷ [];
     }
 class_by_call = refl
 
@@ -160,8 +160,8 @@ array_with_holes = refl
 call_cut_off : read (sf ∷ punct mark.LeftParen ∷ si 1 ∷ punct mark.Comma ∷ si 2 ∷ punct mark.Question ∷ si 3 ∷ [])
     ≡ record {
       tree = call f (and (and none plain (i 1)) plain (choice (i 2) (i 3) any));
-      lacked = punct mark.Colon ∷ any_symbol ∷ punct mark.RightParen ∷ [];
-      left = [];
+      missing = punct mark.Colon ∷ any_symbol ∷ punct mark.RightParen ∷ [];
+      unread = [];
     }
 call_cut_off = refl
 

@@ -9,42 +9,42 @@ use Rattle.php_ast.specs.Tree.{array, isset, Items, and, Lead, plain, reference,
 use Rattle.php_ast.specs.Spelling.{spell, spell_items}
 use Rattle.php_ast.specs.Power.{binary_row, prefix_power}
 use Rattle.php_ast.specs.Proper.{free, top, right, edge, power, ends, ends_bare, is_call, Proper, AreProperItems}
-use Rattle.php_ast.specs.Machine.{Nothing, Form, Holder, of_call, of_new, of_list, Frame, in_enclosed, in_items, in_index, in_computed, in_step, in_part, in_then, in_else, in_short, in_prefix, in_binary, in_instance, in_assign, in_yield, in_yield_value, Stack, level_at, level, closed_with, holder_closing, filled, end_at, is_call_at, seated, seat_end, plug, lacks, holder_front, front_at, front}
-use Rattle.php_ast.proofs.Sound.{SoundHolder, SoundList, SoundEnd, SoundLead, SoundAt, power_at, Sound, Seats, Fits, Closed}
+use Rattle.php_ast.specs.Machine.{Nothing, Form, Holder, of_call, of_new, of_list, OpenForm, enclosed_open, items_open, index_open, computed_open, step_open, part_open, then_open, else_open, short_open, prefix_open, binary_open, instance_open, assign_open, yield_open, yield_value_open, OpenForms, least_power_at, least_power, closed_with, holder_closing, completed, closing_part, is_call_at, seated, seat_end, completed_all, missing_end, holder_front, opening_part, opening_parts}
+use Rattle.php_ast.proofs.Sound.{SoundHolder, SoundList, SoundEnd, SoundLead, IsSoundAt, power_in, IsSound, Seats, IsFitting, Closed}
 
--- ---- the table of powers
+-- ---- bounds of the table
 
-pub prefix_small : (op : Prefix) → prefix_power op ≤ 42
-prefix_small prefix_op.Clone = omega arith
-prefix_small _ = omega arith
+pub prefix_bound : (op : Prefix) → prefix_power op ≤ 42
+prefix_bound prefix_op.Clone = omega arith
+prefix_bound _ = omega arith
 
-pub binary_small : (op : Binary) → ((binary_row op).power ≤ 40) × (right (binary_row op) ≤ 40)
-binary_small binary_op.Power = (omega arith, omega arith)
-binary_small _ = (omega arith, omega arith)
+pub binary_bound : (op : Binary) → ((binary_row op).power ≤ 40) × (right (binary_row op) ≤ 40)
+binary_bound binary_op.Power = (omega arith, omega arith)
+binary_bound _ = (omega arith, omega arith)
 
-pub level_small : (s : Stack) → (level s ≤ 43) ⊎ (level s ≡ 90)
-level_small [] = inl (omega arith)
-level_small (in_enclosed enclosure ∷ s) = inl (omega arith)
-level_small (in_items h items lead ∷ s) = inl (omega arith)
-level_small (in_index a ∷ s) = inl (omega arith)
-level_small (in_computed a ∷ s) = inl (omega arith)
-level_small (in_step steps ∷ s) = inl (omega arith)
-level_small (in_part pieces ∷ s) = inl (omega arith)
-level_small (in_then c ∷ s) = inl (omega arith)
-level_small (in_else c a ∷ s) = inl (omega arith)
-level_small (in_short c ∷ s) = inl (omega arith)
-level_small (in_prefix op ∷ s) = inl (omega (arith, prefix_small op))
-level_small (in_binary op l ∷ s) = inl (omega (arith, (binary_small op).1))
-level_small (in_instance l ∷ s) = inr refl
-level_small (in_assign how l ∷ s) = inl (omega arith)
-level_small (in_yield ∷ s) = inl (omega arith)
-level_small (in_yield_value k ∷ s) = inl (omega arith)
+pub least_power_bound : (s : OpenForms) → (least_power s ≤ 43) ⊎ (least_power s ≡ 90)
+least_power_bound [] = inl (omega arith)
+least_power_bound (enclosed_open enclosure ∷ s) = inl (omega arith)
+least_power_bound (items_open h items lead ∷ s) = inl (omega arith)
+least_power_bound (index_open a ∷ s) = inl (omega arith)
+least_power_bound (computed_open a ∷ s) = inl (omega arith)
+least_power_bound (step_open steps ∷ s) = inl (omega arith)
+least_power_bound (part_open pieces ∷ s) = inl (omega arith)
+least_power_bound (then_open c ∷ s) = inl (omega arith)
+least_power_bound (else_open c a ∷ s) = inl (omega arith)
+least_power_bound (short_open c ∷ s) = inl (omega arith)
+least_power_bound (prefix_open op ∷ s) = inl (omega (arith, prefix_bound op))
+least_power_bound (binary_open op l ∷ s) = inl (omega (arith, (binary_bound op).1))
+least_power_bound (instance_open l ∷ s) = inr refl
+least_power_bound (assign_open how l ∷ s) = inl (omega arith)
+least_power_bound (yield_open ∷ s) = inl (omega arith)
+least_power_bound (yield_value_open k ∷ s) = inl (omega arith)
 
-pub level_top : (s : Stack) → level s ≤ 90
-level_top s = elim (level_small s) [ inl h ↦ omega arith | inr h ↦ omega arith ]
+pub least_power_most : (s : OpenForms) → least_power s ≤ 90
+least_power_most s = elim (least_power_bound s) [ inl h ↦ omega arith | inr h ↦ omega arith ]
 
-pub level_free : (s : Stack) → level s < 90 → level s ≤ free
-level_free s h = elim (level_small s) [ inl g ↦ omega arith | inr g ↦ absurd (omega arith) ]
+pub least_power_free : (s : OpenForms) → least_power s < 90 → least_power s ≤ free
+least_power_free s h = elim (least_power_bound s) [ inl g ↦ omega arith | inr g ↦ absurd (omega arith) ]
 
 -- ---- lists
 
@@ -99,206 +99,206 @@ closed_spells (of_list listing) items w = refl
 
 -- ---- one form
 
-pub filled_spells : (f : Frame) (e : Form) (w : List Symbol) → spell (filled f e) w ≡ front_at f (spell e (end_at f w))
-filled_spells (in_enclosed enclosure) e w = refl
-filled_spells (in_items h items lead) e w = closed_spells h (and items lead e) w
-filled_spells (in_index a) e w = refl
-filled_spells (in_computed a) e w = refl
-filled_spells (in_step steps) e w = refl
-filled_spells (in_part pieces) e w = refl
-filled_spells (in_then c) e w = refl
-filled_spells (in_else c a) e w = refl
-filled_spells (in_short c) e w = refl
-filled_spells (in_prefix op) e w = refl
-filled_spells (in_binary op l) e w = refl
-filled_spells (in_instance l) e w = refl
-filled_spells (in_assign how l) e w = refl
-filled_spells in_yield e w = refl
-filled_spells (in_yield_value k) e w = refl
+pub completed_spells : (f : OpenForm) (e : Form) (w : List Symbol) → spell (completed f e) w ≡ opening_part f (spell e (closing_part f w))
+completed_spells (enclosed_open enclosure) e w = refl
+completed_spells (items_open h items lead) e w = closed_spells h (and items lead e) w
+completed_spells (index_open a) e w = refl
+completed_spells (computed_open a) e w = refl
+completed_spells (step_open steps) e w = refl
+completed_spells (part_open pieces) e w = refl
+completed_spells (then_open c) e w = refl
+completed_spells (else_open c a) e w = refl
+completed_spells (short_open c) e w = refl
+completed_spells (prefix_open op) e w = refl
+completed_spells (binary_open op l) e w = refl
+completed_spells (instance_open l) e w = refl
+completed_spells (assign_open how l) e w = refl
+completed_spells yield_open e w = refl
+completed_spells (yield_value_open k) e w = refl
 
-pub filled_power : (f : Frame) (e : Form) → power (filled f e) ≡ power_at f
-filled_power (in_enclosed enclosure) e = refl
-filled_power (in_items h items lead) e = closed_power h (and items lead e)
-filled_power (in_index a) e = refl
-filled_power (in_computed a) e = refl
-filled_power (in_step steps) e = refl
-filled_power (in_part pieces) e = refl
-filled_power (in_then c) e = refl
-filled_power (in_else c a) e = refl
-filled_power (in_short c) e = refl
-filled_power (in_prefix op) e = refl
-filled_power (in_binary op l) e = refl
-filled_power (in_instance l) e = refl
-filled_power (in_assign how l) e = refl
-filled_power in_yield e = refl
-filled_power (in_yield_value k) e = refl
+pub completed_power : (f : OpenForm) (e : Form) → power (completed f e) ≡ power_in f
+completed_power (enclosed_open enclosure) e = refl
+completed_power (items_open h items lead) e = closed_power h (and items lead e)
+completed_power (index_open a) e = refl
+completed_power (computed_open a) e = refl
+completed_power (step_open steps) e = refl
+completed_power (part_open pieces) e = refl
+completed_power (then_open c) e = refl
+completed_power (else_open c a) e = refl
+completed_power (short_open c) e = refl
+completed_power (prefix_open op) e = refl
+completed_power (binary_open op l) e = refl
+completed_power (instance_open l) e = refl
+completed_power (assign_open how l) e = refl
+completed_power yield_open e = refl
+completed_power (yield_value_open k) e = refl
 
 -- A `yield` alone can be the end of a form without an end of its own.
-abbrev pub MayEndBare : Frame → Form → Type 0
-MayEndBare f e = (0 < level_at f) ⊎ (ends_bare e ≡ false)
+abbrev pub MayEndBare : OpenForm → Form → Type 0
+MayEndBare f e = (0 < least_power_at f) ⊎ (ends_bare e ≡ false)
 
-pub not_bare_in : (f : Frame) (e : Form) → level_at f ≡ 0 → MayEndBare f e → ends_bare e ≡ false
+pub not_bare_in : (f : OpenForm) (e : Form) → least_power_at f ≡ 0 → MayEndBare f e → ends_bare e ≡ false
 not_bare_in f e shut (inl h) = absurd (omega arith)
 not_bare_in f e shut (inr h) = h
 
-pub filled_proper : (f : Frame) (s : Stack) (e : Form) → SoundAt f → level_at f ≤ power e → Proper e → Seats e (f ∷ s) → MayEndBare f e → Proper (filled f e)
-filled_proper (in_enclosed enclosure) s e a near p seats b = p
-filled_proper (in_items h items lead) s e a near p seats b =
+pub completed_proper : (f : OpenForm) (s : OpenForms) (e : Form) → IsSoundAt f → least_power_at f ≤ power e → Proper e → Seats e (f ∷ s) → MayEndBare f e → Proper (completed f e)
+completed_proper (enclosed_open enclosure) s e a near p seats b = p
+completed_proper (items_open h items lead) s e a near p seats b =
     closed_proper h (and items lead e) a.0.holder (list_end h items lead e (list_more h items lead e a.0.list a.1)) (a.0.proper, a.2, p)
-filled_proper (in_index x) s e a near p seats b = (a.0, a.1, p)
-filled_proper (in_computed x) s e a near p seats b = (a.0, a.1, not_bare_in (in_computed x) e refl b, p)
-filled_proper (in_step steps) s e a near p seats b = (a, p)
-filled_proper (in_part pieces) s e a near p seats b = (a, not_bare_in (in_part pieces) e refl b, p)
-filled_proper (in_then c) s e a near p seats b = (a.0, not_bare_in (in_then c) e refl b, omega arith, a.1, p, tt)
-filled_proper (in_else c x) s e a near p seats b = (a.0, a.1, near, a.2, a.3, p)
-filled_proper (in_short c) s e a near p seats b = (a.0, near, a.1, p)
-filled_proper (in_prefix op) s e a near p seats b = (omega arith, p)
-filled_proper (in_binary op l) s e a near p seats b = (a.0, near, a.1, p)
-filled_proper (in_instance l) s e a near p seats b = (a.0, omega arith, seats, a.1, p)
-filled_proper (in_assign how l) s e a near p seats b = (a.0, near, a.1, p)
-filled_proper in_yield s e a near p seats b = (omega arith, p)
-filled_proper (in_yield_value k) s e a near p seats b = (a.0, a.1, omega arith, a.2, p)
+completed_proper (index_open x) s e a near p seats b = (a.0, a.1, p)
+completed_proper (computed_open x) s e a near p seats b = (a.0, a.1, not_bare_in (computed_open x) e refl b, p)
+completed_proper (step_open steps) s e a near p seats b = (a, p)
+completed_proper (part_open pieces) s e a near p seats b = (a, not_bare_in (part_open pieces) e refl b, p)
+completed_proper (then_open c) s e a near p seats b = (a.0, not_bare_in (then_open c) e refl b, omega arith, a.1, p, tt)
+completed_proper (else_open c x) s e a near p seats b = (a.0, a.1, near, a.2, a.3, p)
+completed_proper (short_open c) s e a near p seats b = (a.0, near, a.1, p)
+completed_proper (prefix_open op) s e a near p seats b = (omega arith, p)
+completed_proper (binary_open op l) s e a near p seats b = (a.0, near, a.1, p)
+completed_proper (instance_open l) s e a near p seats b = (a.0, omega arith, seats, a.1, p)
+completed_proper (assign_open how l) s e a near p seats b = (a.0, near, a.1, p)
+completed_proper yield_open s e a near p seats b = (omega arith, p)
+completed_proper (yield_value_open k) s e a near p seats b = (a.0, a.1, omega arith, a.2, p)
 
 -- ---- in the forms around it
 
-pub call_seat : (f : Frame) (e : Form) → is_call_at f ≡ false → is_call (filled f e) ≡ false
-call_seat (in_items (of_call g) items lead) e h = h
-call_seat (in_items (of_new class) items lead) e h = refl
-call_seat (in_items (of_list listing) items lead) e h = refl
-call_seat (in_enclosed enclosure) e h = refl
-call_seat (in_index a) e h = refl
-call_seat (in_computed a) e h = refl
-call_seat (in_step steps) e h = refl
-call_seat (in_part pieces) e h = refl
-call_seat (in_then c) e h = refl
-call_seat (in_else c a) e h = refl
-call_seat (in_short c) e h = refl
-call_seat (in_prefix op) e h = refl
-call_seat (in_binary op l) e h = refl
-call_seat (in_instance l) e h = refl
-call_seat (in_assign how l) e h = refl
-call_seat in_yield e h = refl
-call_seat (in_yield_value k) e h = refl
+pub call_seat : (f : OpenForm) (e : Form) → is_call_at f ≡ false → is_call (completed f e) ≡ false
+call_seat (items_open (of_call g) items lead) e h = h
+call_seat (items_open (of_new class) items lead) e h = refl
+call_seat (items_open (of_list listing) items lead) e h = refl
+call_seat (enclosed_open enclosure) e h = refl
+call_seat (index_open a) e h = refl
+call_seat (computed_open a) e h = refl
+call_seat (step_open steps) e h = refl
+call_seat (part_open pieces) e h = refl
+call_seat (then_open c) e h = refl
+call_seat (else_open c a) e h = refl
+call_seat (short_open c) e h = refl
+call_seat (prefix_open op) e h = refl
+call_seat (binary_open op l) e h = refl
+call_seat (instance_open l) e h = refl
+call_seat (assign_open how l) e h = refl
+call_seat yield_open e h = refl
+call_seat (yield_value_open k) e h = refl
 
-pub call_ends : (f : Frame) (e : Form) → is_call_at f ≡ true → ends (filled f e) ≡ top
-call_ends (in_items (of_call g) items lead) e h = refl
-call_ends (in_items (of_new class) items lead) e h = cc
-call_ends (in_items (of_list listing) items lead) e h = cc
-call_ends (in_enclosed enclosure) e h = cc
-call_ends (in_index a) e h = cc
-call_ends (in_computed a) e h = cc
-call_ends (in_step steps) e h = cc
-call_ends (in_part pieces) e h = cc
-call_ends (in_then c) e h = cc
-call_ends (in_else c a) e h = cc
-call_ends (in_short c) e h = cc
-call_ends (in_prefix op) e h = cc
-call_ends (in_binary op l) e h = cc
-call_ends (in_instance l) e h = cc
-call_ends (in_assign how l) e h = cc
-call_ends in_yield e h = cc
-call_ends (in_yield_value k) e h = cc
+pub call_ends : (f : OpenForm) (e : Form) → is_call_at f ≡ true → ends (completed f e) ≡ top
+call_ends (items_open (of_call g) items lead) e h = refl
+call_ends (items_open (of_new class) items lead) e h = cc
+call_ends (items_open (of_list listing) items lead) e h = cc
+call_ends (enclosed_open enclosure) e h = cc
+call_ends (index_open a) e h = cc
+call_ends (computed_open a) e h = cc
+call_ends (step_open steps) e h = cc
+call_ends (part_open pieces) e h = cc
+call_ends (then_open c) e h = cc
+call_ends (else_open c a) e h = cc
+call_ends (short_open c) e h = cc
+call_ends (prefix_open op) e h = cc
+call_ends (binary_open op l) e h = cc
+call_ends (instance_open l) e h = cc
+call_ends (assign_open how l) e h = cc
+call_ends yield_open e h = cc
+call_ends (yield_value_open k) e h = cc
 
 -- a form without an end of its own
-pub endless : (f : Frame) (w : List Symbol) → 0 < level_at f → end_at f w ≡ w
-endless (in_enclosed enclosure) w h = absurd (omega arith)
-endless (in_items g items lead) w h = absurd (omega arith)
-endless (in_index a) w h = absurd (omega arith)
-endless (in_computed a) w h = absurd (omega arith)
-endless (in_step steps) w h = absurd (omega arith)
-endless (in_part pieces) w h = absurd (omega arith)
-endless (in_then c) w h = absurd (omega arith)
-endless _ w h = refl
+pub without_end : (f : OpenForm) (w : List Symbol) → 0 < least_power_at f → closing_part f w ≡ w
+without_end (enclosed_open enclosure) w h = absurd (omega arith)
+without_end (items_open g items lead) w h = absurd (omega arith)
+without_end (index_open a) w h = absurd (omega arith)
+without_end (computed_open a) w h = absurd (omega arith)
+without_end (step_open steps) w h = absurd (omega arith)
+without_end (part_open pieces) w h = absurd (omega arith)
+without_end (then_open c) w h = absurd (omega arith)
+without_end _ w h = refl
 
-pub endless_call : (f : Frame) → 0 < level_at f → is_call_at f ≡ false
-endless_call (in_items g items lead) h = absurd (omega arith)
-endless_call _ h = refl
+pub without_end_call : (f : OpenForm) → 0 < least_power_at f → is_call_at f ≡ false
+without_end_call (items_open g items lead) h = absurd (omega arith)
+without_end_call _ h = refl
 
-pub filled_bare : (f : Frame) (e : Form) → ends_bare e ≡ false → ends_bare (filled f e) ≡ false
-filled_bare (in_enclosed enclosure) e b = refl
-filled_bare (in_items g items lead) e b = (closed_closed g (and items lead e)).not_bare
-filled_bare (in_index a) e b = refl
-filled_bare (in_computed a) e b = refl
-filled_bare (in_step steps) e b = refl
-filled_bare (in_part pieces) e b = refl
-filled_bare (in_then c) e b = refl
-filled_bare (in_instance l) e b = refl
-filled_bare _ e b = b
+pub completed_bare : (f : OpenForm) (e : Form) → ends_bare e ≡ false → ends_bare (completed f e) ≡ false
+completed_bare (enclosed_open enclosure) e b = refl
+completed_bare (items_open g items lead) e b = (closed_closed g (and items lead e)).not_bare
+completed_bare (index_open a) e b = refl
+completed_bare (computed_open a) e b = refl
+completed_bare (step_open steps) e b = refl
+completed_bare (part_open pieces) e b = refl
+completed_bare (then_open c) e b = refl
+completed_bare (instance_open l) e b = refl
+completed_bare _ e b = b
 
-seat_true : (s : Stack) (x : Form) → ends x ≡ top → Proper x → level s ≤ power x → Sound s → Fits (seated true s x) s
+seat_true : (s : OpenForms) (x : Form) → ends x ≡ top → Proper x → least_power s ≤ power x → IsSound s → IsFitting (seated true s x) s
 seat_true [] x e p near sound = record { proper = p; near = near; sound = sound; seats = tt }
-seat_true (in_instance l ∷ s) x e p near sound = record { proper = (omega (arith, e), p); near = omega arith; sound = sound; seats = refl }
+seat_true (instance_open l ∷ s) x e p near sound = record { proper = (omega (arith, e), p); near = omega arith; sound = sound; seats = refl }
 seat_true (f ∷ s) x e p near sound = record { proper = p; near = near; sound = sound; seats = tt }
 
-pub seats_by : (s : Stack) (x : Form) → is_call x ≡ false → Seats x s
+pub seats_by : (s : OpenForms) (x : Form) → is_call x ≡ false → Seats x s
 seats_by [] x e = tt
-seats_by (in_instance l ∷ s) x e = e
+seats_by (instance_open l ∷ s) x e = e
 seats_by (f ∷ s) x e = tt
 
-seat_if : (b : Bool) (f : Frame) (s : Stack) (e : Form) → is_call_at f ≡ b → Proper (filled f e) → level s ≤ power (filled f e) → Sound s → Fits (seated b s (filled f e)) s
-seat_if true f s e is p near sound = seat_true s (filled f e) (call_ends f e is) p near sound
-seat_if false f s e is p near sound = record { proper = p; near = near; sound = sound; seats = seats_by s (filled f e) (call_seat f e is) }
+seat_if : (b : Bool) (f : OpenForm) (s : OpenForms) (e : Form) → is_call_at f ≡ b → Proper (completed f e) → least_power s ≤ power (completed f e) → IsSound s → IsFitting (seated b s (completed f e)) s
+seat_if true f s e is p near sound = seat_true s (completed f e) (call_ends f e is) p near sound
+seat_if false f s e is p near sound = record { proper = p; near = near; sound = sound; seats = seats_by s (completed f e) (call_seat f e is) }
 
-pub seated_fits : (f : Frame) (s : Stack) (e : Form) → Fits e (f ∷ s) → MayEndBare f e → Fits (seated (is_call_at f) s (filled f e)) s
+pub seated_fits : (f : OpenForm) (s : OpenForms) (e : Form) → IsFitting e (f ∷ s) → MayEndBare f e → IsFitting (seated (is_call_at f) s (completed f e)) s
 seated_fits f s e h b =
-    seat_if (is_call_at f) f s e refl (filled_proper f s e h.sound.0 h.near h.proper h.seats b)
-    (subst (λ n. level s ≤ n) (sym (filled_power f e)) h.sound.1) h.sound.2
+    seat_if (is_call_at f) f s e refl (completed_proper f s e h.sound.0 h.near h.proper h.seats b)
+    (subst (λ n. least_power s ≤ n) (sym (completed_power f e)) h.sound.1) h.sound.2
 
-seated_spells : (b : Bool) (s : Stack) (x : Form) (w : List Symbol) → spell (seated b s x) w ≡ spell x (seat_end b s w)
+seated_spells : (b : Bool) (s : OpenForms) (x : Form) (w : List Symbol) → spell (seated b s x) w ≡ spell x (seat_end b s w)
 seated_spells false s x w = refl
 seated_spells true [] x w = refl
-seated_spells true (in_instance l ∷ s) x w = refl
+seated_spells true (instance_open l ∷ s) x w = refl
 seated_spells true (f ∷ s) x w = refl
 
-seated_bare : (b : Bool) (s : Stack) (x : Form) → ends_bare x ≡ false → ends_bare (seated b s x) ≡ false
+seated_bare : (b : Bool) (s : OpenForms) (x : Form) → ends_bare x ≡ false → ends_bare (seated b s x) ≡ false
 seated_bare false s x h = h
 seated_bare true [] x h = h
-seated_bare true (in_instance l ∷ s) x h = refl
+seated_bare true (instance_open l ∷ s) x h = refl
 seated_bare true (f ∷ s) x h = h
 
-pub plugged_spells : (s : Stack) (e : Form) → spell (plug s e) [] ≡ front s (spell e (lacks s))
-plugged_spells [] e = refl
-plugged_spells (f ∷ s) e =
-    plugged_spells s (seated (is_call_at f) s (filled f e))
-    ∙ ap (front s) (seated_spells (is_call_at f) s (filled f e) (lacks s) ∙ filled_spells f e (seat_end (is_call_at f) s (lacks s)))
+pub completed_all_spells : (s : OpenForms) (e : Form) → spell (completed_all s e) [] ≡ opening_parts s (spell e (missing_end s))
+completed_all_spells [] e = refl
+completed_all_spells (f ∷ s) e =
+    completed_all_spells s (seated (is_call_at f) s (completed f e))
+    ∙ ap (opening_parts s) (seated_spells (is_call_at f) s (completed f e) (missing_end s) ∙ completed_spells f e (seat_end (is_call_at f) s (missing_end s)))
 
-pub plugged_proper : (s : Stack) (e : Form) → Fits e s → ends_bare e ≡ false → Proper (plug s e)
-plugged_proper [] e h b = h.proper
-plugged_proper (f ∷ s) e h b =
-    plugged_proper s (seated (is_call_at f) s (filled f e)) (seated_fits f s e h (inr b)) (seated_bare (is_call_at f) s (filled f e) (filled_bare f e b))
+pub completed_all_proper : (s : OpenForms) (e : Form) → IsFitting e s → ends_bare e ≡ false → Proper (completed_all s e)
+completed_all_proper [] e h b = h.proper
+completed_all_proper (f ∷ s) e h b =
+    completed_all_proper s (seated (is_call_at f) s (completed f e)) (seated_fits f s e h (inr b)) (seated_bare (is_call_at f) s (completed f e) (completed_bare f e b))
 
 -- where nothing is lacking, no form has an end of its own
-lacks_none : (f : Frame) (w : List Symbol) → end_at f w ≡ [] → (0 < level_at f) × (w ≡ [])
-lacks_none (in_enclosed enclosure) w h = cc
-lacks_none (in_items g items lead) w h = cc
-lacks_none (in_index a) w h = cc
-lacks_none (in_computed a) w h = cc
-lacks_none (in_step steps) w h = cc
-lacks_none (in_part pieces) w h = cc
-lacks_none (in_then c) w h = cc
-lacks_none (in_else c a) w h = (omega arith, h)
-lacks_none (in_short c) w h = (omega arith, h)
-lacks_none (in_prefix op) w h = (omega arith, h)
-lacks_none (in_binary op l) w h = (omega (arith, right_some op), h)
+lacks_none : (f : OpenForm) (w : List Symbol) → closing_part f w ≡ [] → (0 < least_power_at f) × (w ≡ [])
+lacks_none (enclosed_open enclosure) w h = cc
+lacks_none (items_open g items lead) w h = cc
+lacks_none (index_open a) w h = cc
+lacks_none (computed_open a) w h = cc
+lacks_none (step_open steps) w h = cc
+lacks_none (part_open pieces) w h = cc
+lacks_none (then_open c) w h = cc
+lacks_none (else_open c a) w h = (omega arith, h)
+lacks_none (short_open c) w h = (omega arith, h)
+lacks_none (prefix_open op) w h = (omega arith, h)
+lacks_none (binary_open op l) w h = (omega (arith, right_some op), h)
   where
     right_some : (op : Binary) → 0 < right (binary_row op)
     right_some binary_op.Power = omega arith
     right_some _ = omega arith
-lacks_none (in_instance l) w h = (omega arith, h)
-lacks_none (in_assign how l) w h = (omega arith, h)
-lacks_none in_yield w h = (omega arith, h)
-lacks_none (in_yield_value k) w h = (omega arith, h)
+lacks_none (instance_open l) w h = (omega arith, h)
+lacks_none (assign_open how l) w h = (omega arith, h)
+lacks_none yield_open w h = (omega arith, h)
+lacks_none (yield_value_open k) w h = (omega arith, h)
 
-pub plugged_bare : (s : Stack) (e : Form) → Fits e s → lacks s ≡ [] → Proper (plug s e)
-plugged_bare [] e h b = h.proper
-plugged_bare (f ∷ s) e h b =
-    let q = lacks_none f (seat_end (is_call_at f) s (lacks s)) b in
-    let calls : is_call_at f ≡ false = endless_call f q.0 in
-    plugged_bare s (seated (is_call_at f) s (filled f e)) (seated_fits f s e h (inl q.0))
-    (ap (λ c. seat_end c s (lacks s)) (sym calls) ∙ q.1)
+pub completed_all_bare : (s : OpenForms) (e : Form) → IsFitting e s → missing_end s ≡ [] → Proper (completed_all s e)
+completed_all_bare [] e h b = h.proper
+completed_all_bare (f ∷ s) e h b =
+    let q = lacks_none f (seat_end (is_call_at f) s (missing_end s)) b in
+    let applies : is_call_at f ≡ false = without_end_call f q.0 in
+    completed_all_bare s (seated (is_call_at f) s (completed f e)) (seated_fits f s e h (inl q.0))
+    (ap (λ c. seat_end c s (missing_end s)) (sym applies) ∙ q.1)
 
-pub edge_small : (op : Binary)
+pub edge_bounds : (op : Binary)
     → (edge (binary_row op) ≤ 40) × (edge (binary_row op) ≤ suc (binary_row op).power) × (0 < edge (binary_row op)) × (edge (binary_row op) ≤ right (binary_row op))
     × ((binary_row op).power ≤ edge (binary_row op))
-edge_small binary_op.Power = (omega arith, omega arith, omega arith, omega arith, omega arith)
-edge_small _ = (omega arith, omega arith, omega arith, omega arith, omega arith)
+edge_bounds binary_op.Power = (omega arith, omega arith, omega arith, omega arith, omega arith)
+edge_bounds _ = (omega arith, omega arith, omega arith, omega arith, omega arith)

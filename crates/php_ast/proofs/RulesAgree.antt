@@ -7,13 +7,13 @@ use Rattle.php_ast.specs.Power.{Grouping, to_left, to_right, ungrouped, binary_r
 use Rattle.php_ast.specs.Proper.{power, ends, edge, edge_of, right_of, Proper}
 use Rattle.php_ast.specs.Machine.{Form}
 use Rattle.php_ast.specs.Rules.{ending_powers, AllAbove, IsFree, is_left, chosen, operand_before, RuleRight, RulePrefix, PowersAgree}
-use Rattle.php_ast.proofs.Fill.{prefix_small, binary_small, edge_small}
+use Rattle.php_ast.proofs.Fill.{prefix_bound, binary_bound, edge_bounds}
 
 -- ---- a tree of a higher power
 
 above_to : (e : Form) (p : ℕ) → Proper e → p < power e → p < ends e → AllAbove p (ending_powers e)
 above_to (prefix spot op e) p h near low = (omega arith, above_to e p h.1 (omega (arith, h.0)) (omega arith))
-above_to (binary op l r) p h near low = (near, above_to r p h.3 (omega (arith, h.1, edge_small op)) (omega arith))
+above_to (binary op l r) p h near low = (near, above_to r p h.3 (omega (arith, h.1, edge_bounds op)) (omega arith))
 above_to (instance l r) p h near low = (low, tt)
 above_to (static_instance l spot) p h near low = (low, tt)
 above_to (choice c a b) p h near low = (near, above_to b p h.5 (omega (arith, h.2)) (omega arith))
@@ -26,7 +26,7 @@ above_to _ p h near low = tt
 
 above_from : (e : Form) (p : ℕ) → p < 50 → Proper e → p < power e → AllAbove p (ending_powers e) → p < ends e
 above_from (prefix spot op e) p small h near a = omega (arith, a.0, above_from e p small h.1 (omega (arith, h.0, a.0)) a.1)
-above_from (binary op l r) p small h near a = omega (arith, edge_small op, above_from r p small h.3 (omega (arith, h.1, edge_small op)) a.1)
+above_from (binary op l r) p small h near a = omega (arith, edge_bounds op, above_from r p small h.3 (omega (arith, h.1, edge_bounds op)) a.1)
 above_from (instance l r) p small h near a = a.0
 above_from (static_instance l spot) p small h near a = a.0
 above_from (choice c x b) p small h near a = omega (arith, above_from b p small h.5 (omega (arith, h.2)) a.1)
@@ -63,8 +63,8 @@ edge_other op h = other_by (binary_row op).grouping (binary_row op).power h
 same_power : (b : Bool) (op : Binary) (l r : Form) → is_left (binary_row op).grouping ≡ b → Proper (binary op l r)
     → ((binary_row op).power < ends (binary op l r)) ↔ AllAbove (binary_row op).power (ending_powers (chosen (if b then true else false) r (binary op l r)))
 same_power true op l r is h = (
-  (λ low. above_to r (binary_row op).power h.3 (omega (arith, h.1, edge_small op, edge_left op is)) (omega arith)),
-  (λ a. omega (arith, edge_left op is, above_from r (binary_row op).power (omega (arith, binary_small op)) h.3 (omega (arith, h.1, edge_small op, edge_left op is)) a)),
+  (λ low. above_to r (binary_row op).power h.3 (omega (arith, h.1, edge_bounds op, edge_left op is)) (omega arith)),
+  (λ a. omega (arith, edge_left op is, above_from r (binary_row op).power (omega (arith, binary_bound op)) h.3 (omega (arith, h.1, edge_bounds op, edge_left op is)) a)),
 )
 same_power false op l r is h = ((λ low. absurd (omega (arith, edge_other op is))), (λ a. absurd (omega (arith, a.0))))
 
@@ -76,7 +76,7 @@ if_none false = refl
 other_power : (p : ℕ) (op : Binary) (l r : Form) → p < 50 → p ≢ (binary_row op).power → Proper (binary op l r)
     → (p < ends (binary op l r)) ↔ AllAbove p (ending_powers (binary op l r))
 other_power p op l r small apart h = (
-  (λ low. let ne : p ≢ (binary_row op).power = apart in above_to (binary op l r) p h (omega (arith, edge_small op, ne)) low),
+  (λ low. let ne : p ≢ (binary_row op).power = apart in above_to (binary op l r) p h (omega (arith, edge_bounds op, ne)) low),
   (λ a. above_from (binary op l r) p small h a.0 a),
 )
 
@@ -162,12 +162,12 @@ on_prefix p e small = ((λ h. inr h), (λ h. elim h [ inl f ↦ omega (arith, fr
 pub rules_agree : (l r : Form) → Proper l → PowersAgree l r
 rules_agree l r h = record {
   binary_agrees = λ op. record {
-    on_left = on_left (binary_row op).power l (omega (arith, binary_small op)) h;
-    on_right = on_right (binary_row op).grouping (binary_row op).power r (omega (arith, binary_small op));
+    on_left = on_left (binary_row op).power l (omega (arith, binary_bound op)) h;
+    on_right = on_right (binary_row op).grouping (binary_row op).power r (omega (arith, binary_bound op));
   };
   choice_agrees = record { on_left = on_left 10 l (omega arith) h; on_right = on_right to_left 10 r (omega arith) };
   instance_agrees = on_left 36 l (omega arith) h;
   assign_agrees = on_right to_right 8 r (omega arith);
-  prefix_agrees = λ op. on_prefix (prefix_power op) r (omega (arith, prefix_small op));
+  prefix_agrees = λ op. on_prefix (prefix_power op) r (omega (arith, prefix_bound op));
   yield_agrees = on_prefix 7 r (omega arith);
 }

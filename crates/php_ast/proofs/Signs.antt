@@ -23,18 +23,18 @@ use Rattle.php_ast.specs.Tree as tree
 use Rattle.php_ast.specs.Tree.{Leaf, Enclosure, parentheses, emptiness, exiting, Listing, array, isset, thin, colons, Member, named, reserved, held}
 use Rattle.php_ast.specs.Spelling.{leaf_symbol, member_symbol, arrow_symbol}
 use Rattle.php_ast.specs.Proper.{IsWord}
-use Rattle.php_ast.specs.Sign.{First, is_leaf, is_static, is_quote, is_exit, is_new, is_yield, encloses, lists, operates, nothing, first, first_keyword, first_punct, first_cast, Draw, goes, checks, asks, sets, counts, calls, indexes, selects, Closer, paren, bracket, brace, comma, double_arrow, colon, semicolon, part_end, Next, draws, closes, other, next, next_keyword, next_punct, word_of, member_of, Mark, refers, spreads, ends_item, begins, item_mark, is_ampersand, is_paren, is_right_paren, is_right_bracket, is_left_brace, is_colon}
+use Rattle.php_ast.specs.Sign.{Beginning, is_leaf, is_static, is_quote, is_exit, is_new, is_yield, encloses, lists, prefixes, begins_nothing, beginning, beginning_keyword, beginning_punct, beginning_cast, Draw, joins, checks, chooses, sets, counts, applies, subscripts, selects, Closer, paren, bracket, brace, comma, double_arrow, colon, semicolon, part_end, Continuation, draws, closes, neither, continuation, continuation_keyword, continuation_punct, word_of, member_of, Mark, refers, spreads, ends_item, begins, item_mark, is_ampersand, is_paren, is_right_paren, is_right_bracket, is_left_brace, is_colon}
 
 -- ---- the symbol of each sign
 
 abbrev pub draw_symbol : Draw → Symbol
-draw_symbol (goes op) = binary_symbol op
+draw_symbol (joins op) = binary_symbol op
 draw_symbol checks = keyword word.InstanceOf
-draw_symbol asks = punct mark.Question
+draw_symbol chooses = punct mark.Question
 draw_symbol (sets op) = assign_symbol op
 draw_symbol (counts c) = count_symbol c
-draw_symbol calls = punct mark.LeftParen
-draw_symbol indexes = punct mark.LeftBracket
+draw_symbol applies = punct mark.LeftParen
+draw_symbol subscripts = punct mark.LeftBracket
 draw_symbol (selects arrow) = arrow_symbol arrow
 
 abbrev pub closer_symbol : Closer → Symbol
@@ -60,125 +60,125 @@ listing_word isset = keyword word.IsSet
 
 -- ---- what follows an expression
 
-abbrev pub Says : Next → Symbol → Type 0
+abbrev pub Says : Continuation → Symbol → Type 0
 Says (draws d) t = t ≡ draw_symbol d
 Says (closes c) t = t ≡ closer_symbol c
-Says other t = Unit {0}
+Says neither t = Unit {0}
 
-next_keyword_says : (k : Keyword) → Says (next_keyword k) (keyword k)
-next_keyword_says word.InstanceOf = refl
-next_keyword_says word.And = refl
-next_keyword_says word.Xor = refl
-next_keyword_says word.Or = refl
-next_keyword_says _ = tt
+continuation_keyword_says : (k : Keyword) → Says (continuation_keyword k) (keyword k)
+continuation_keyword_says word.InstanceOf = refl
+continuation_keyword_says word.And = refl
+continuation_keyword_says word.Xor = refl
+continuation_keyword_says word.Or = refl
+continuation_keyword_says _ = tt
 
-next_punct_says : (p : Punct) → Says (next_punct p) (punct p)
-next_punct_says mark.LeftBrace = tt
-next_punct_says mark.Tilde = tt
-next_punct_says mark.Bang = tt
-next_punct_says mark.Ellipsis = tt
-next_punct_says mark.At = tt
-next_punct_says _ = refl
+continuation_punct_says : (p : Punct) → Says (continuation_punct p) (punct p)
+continuation_punct_says mark.LeftBrace = tt
+continuation_punct_says mark.Tilde = tt
+continuation_punct_says mark.Bang = tt
+continuation_punct_says mark.Ellipsis = tt
+continuation_punct_says mark.At = tt
+continuation_punct_says _ = refl
 
-pub next_says : (t : Symbol) → Says (next t) t
-next_says (keyword k) = next_keyword_says k
-next_says (punct p) = next_punct_says p
-next_says symbol.end_part = refl
-next_says _ = tt
+pub continuation_says : (t : Symbol) → Says (continuation t) t
+continuation_says (keyword k) = continuation_keyword_says k
+continuation_says (punct p) = continuation_punct_says p
+continuation_says symbol.end_part = refl
+continuation_says _ = tt
 
-pub next_binary : (op : Binary) → next (binary_symbol op) ≡ draws (goes op)
-next_binary binary.Power = refl
-next_binary _ = refl
+pub continuation_binary : (op : Binary) → continuation (binary_symbol op) ≡ draws (joins op)
+continuation_binary binary.Power = refl
+continuation_binary _ = refl
 
-pub next_assign : (op : Assign) → next (assign_symbol op) ≡ draws (sets op)
-next_assign assign.Plain = refl
-next_assign _ = refl
+pub continuation_assign : (op : Assign) → continuation (assign_symbol op) ≡ draws (sets op)
+continuation_assign assign.Plain = refl
+continuation_assign _ = refl
 
-pub next_draw : (d : Draw) → next (draw_symbol d) ≡ draws d
-next_draw (goes op) = next_binary op
-next_draw checks = refl
-next_draw asks = refl
-next_draw (sets op) = next_assign op
-next_draw (counts count.Up) = refl
-next_draw (counts count.Down) = refl
-next_draw calls = refl
-next_draw indexes = refl
-next_draw (selects thin) = refl
-next_draw (selects colons) = refl
+pub continuation_draw : (d : Draw) → continuation (draw_symbol d) ≡ draws d
+continuation_draw (joins op) = continuation_binary op
+continuation_draw checks = refl
+continuation_draw chooses = refl
+continuation_draw (sets op) = continuation_assign op
+continuation_draw (counts count.Up) = refl
+continuation_draw (counts count.Down) = refl
+continuation_draw applies = refl
+continuation_draw subscripts = refl
+continuation_draw (selects thin) = refl
+continuation_draw (selects colons) = refl
 
 -- ---- what begins an expression
 
-abbrev pub FirstSays : First → Symbol → Type 0
-FirstSays (is_leaf l) t = t ≡ leaf_symbol l
-FirstSays is_static t = t ≡ keyword word.Static
-FirstSays is_quote t = t ≡ symbol.quote
-FirstSays is_exit t = t ≡ keyword word.Exit
-FirstSays is_new t = t ≡ keyword word.New
-FirstSays is_yield t = t ≡ keyword word.Yield
-FirstSays (encloses enclosure) t = t ≡ enclosure_word enclosure
-FirstSays (lists listing) t = t ≡ listing_word listing
-FirstSays (operates op) t = t ≡ prefix_symbol op
-FirstSays nothing t = Unit {0}
+abbrev pub BeginningSays : Beginning → Symbol → Type 0
+BeginningSays (is_leaf l) t = t ≡ leaf_symbol l
+BeginningSays is_static t = t ≡ keyword word.Static
+BeginningSays is_quote t = t ≡ symbol.quote
+BeginningSays is_exit t = t ≡ keyword word.Exit
+BeginningSays is_new t = t ≡ keyword word.New
+BeginningSays is_yield t = t ≡ keyword word.Yield
+BeginningSays (encloses enclosure) t = t ≡ enclosure_word enclosure
+BeginningSays (lists listing) t = t ≡ listing_word listing
+BeginningSays (prefixes op) t = t ≡ prefix_symbol op
+BeginningSays begins_nothing t = Unit {0}
 
-first_keyword_says : (k : Keyword) → FirstSays (first_keyword k) (keyword k)
-first_keyword_says word.Array = refl
-first_keyword_says word.List = refl
-first_keyword_says word.IsSet = refl
-first_keyword_says word.Empty = refl
-first_keyword_says word.Exit = refl
-first_keyword_says word.New = refl
-first_keyword_says word.Static = refl
-first_keyword_says word.Yield = refl
-first_keyword_says word.Clone = refl
-first_keyword_says word.Print = refl
-first_keyword_says word.YieldFrom = refl
-first_keyword_says word.LineNumber = refl
-first_keyword_says word.ClassName = refl
-first_keyword_says word.FunctionName = refl
-first_keyword_says word.MethodName = refl
-first_keyword_says _ = tt
+beginning_keyword_says : (k : Keyword) → BeginningSays (beginning_keyword k) (keyword k)
+beginning_keyword_says word.Array = refl
+beginning_keyword_says word.List = refl
+beginning_keyword_says word.IsSet = refl
+beginning_keyword_says word.Empty = refl
+beginning_keyword_says word.Exit = refl
+beginning_keyword_says word.New = refl
+beginning_keyword_says word.Static = refl
+beginning_keyword_says word.Yield = refl
+beginning_keyword_says word.Clone = refl
+beginning_keyword_says word.Print = refl
+beginning_keyword_says word.YieldFrom = refl
+beginning_keyword_says word.LineNumber = refl
+beginning_keyword_says word.ClassName = refl
+beginning_keyword_says word.FunctionName = refl
+beginning_keyword_says word.MethodName = refl
+beginning_keyword_says _ = tt
 
-first_punct_says : (p : Punct) → FirstSays (first_punct p) (punct p)
-first_punct_says mark.LeftParen = refl
-first_punct_says mark.LeftBracket = refl
-first_punct_says mark.PlusPlus = refl
-first_punct_says mark.MinusMinus = refl
-first_punct_says mark.Tilde = refl
-first_punct_says mark.At = refl
-first_punct_says mark.Plus = refl
-first_punct_says mark.Minus = refl
-first_punct_says mark.Bang = refl
-first_punct_says _ = tt
+beginning_punct_says : (p : Punct) → BeginningSays (beginning_punct p) (punct p)
+beginning_punct_says mark.LeftParen = refl
+beginning_punct_says mark.LeftBracket = refl
+beginning_punct_says mark.PlusPlus = refl
+beginning_punct_says mark.MinusMinus = refl
+beginning_punct_says mark.Tilde = refl
+beginning_punct_says mark.At = refl
+beginning_punct_says mark.Plus = refl
+beginning_punct_says mark.Minus = refl
+beginning_punct_says mark.Bang = refl
+beginning_punct_says _ = tt
 
-first_cast_says : (c : Cast) → FirstSays (first_cast c) (cast c)
-first_cast_says to.Other = tt
-first_cast_says _ = refl
+beginning_cast_says : (c : Cast) → BeginningSays (beginning_cast c) (cast c)
+beginning_cast_says to.Other = tt
+beginning_cast_says _ = refl
 
-pub first_says : (t : Symbol) → FirstSays (first t) t
-first_says (symbol.variable text) = refl
-first_says (symbol.int n) = refl
-first_says (symbol.string text) = refl
-first_says (symbol.name text) = refl
-first_says symbol.quote = refl
-first_says (keyword k) = first_keyword_says k
-first_says (punct p) = first_punct_says p
-first_says (cast c) = first_cast_says c
-first_says _ = tt
+pub beginning_says : (t : Symbol) → BeginningSays (beginning t) t
+beginning_says (symbol.variable text) = refl
+beginning_says (symbol.int n) = refl
+beginning_says (symbol.string text) = refl
+beginning_says (symbol.name text) = refl
+beginning_says symbol.quote = refl
+beginning_says (keyword k) = beginning_keyword_says k
+beginning_says (punct p) = beginning_punct_says p
+beginning_says (cast c) = beginning_cast_says c
+beginning_says _ = tt
 
-pub first_prefix : (op : Prefix) → first (prefix_symbol op) ≡ operates op
-first_prefix prefix.Clone = refl
-first_prefix _ = refl
+pub beginning_prefix : (op : Prefix) → beginning (prefix_symbol op) ≡ prefixes op
+beginning_prefix prefix.Clone = refl
+beginning_prefix _ = refl
 
-first_magic : (m : Magic) → first (magic_symbol m) ≡ is_leaf (tree.magic m)
-first_magic magic.Line = refl
-first_magic _ = refl
+beginning_magic : (m : Magic) → beginning (magic_symbol m) ≡ is_leaf (tree.magic m)
+beginning_magic magic.Line = refl
+beginning_magic _ = refl
 
-pub first_leaf : (l : Leaf) → first (leaf_symbol l) ≡ is_leaf l
-first_leaf (tree.variable text) = refl
-first_leaf (tree.int n) = refl
-first_leaf (tree.string text) = refl
-first_leaf (tree.name text) = refl
-first_leaf (tree.magic m) = first_magic m
+pub beginning_leaf : (l : Leaf) → beginning (leaf_symbol l) ≡ is_leaf l
+beginning_leaf (tree.variable text) = refl
+beginning_leaf (tree.int n) = refl
+beginning_leaf (tree.string text) = refl
+beginning_leaf (tree.name text) = refl
+beginning_leaf (tree.magic m) = beginning_magic m
 
 -- ---- what may stand where an item is due
 

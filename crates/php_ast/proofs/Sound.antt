@@ -1,4 +1,4 @@
--- What holds of the open forms and of a mode at any time, and the symbols that led to a mode.
+-- The invariant of the machine, and the symbols that a state stands for.
 use Rattle.std.proofs.Common.{◌≡◌, ◌≤◌, ◌<◌, ℕ, true, false, List, [], ◌∷◌}
 use Rattle.php_lex.specs.declared.kind.Keyword.TheVariants as word
 use Rattle.php_lex.specs.declared.kind.Punct.TheVariants as mark
@@ -8,7 +8,7 @@ use Rattle.php_ast.specs.Tree.{parentheses, array, isset, Items, Lead, plain, sp
 use Rattle.php_ast.specs.Spelling.{spell, spell_items, spell_pieces, spell_class, spell_steps, comma, arrow_symbol}
 use Rattle.php_ast.specs.Power.{binary_row, choice_row, instance_row, yield_power}
 use Rattle.php_ast.specs.Proper.{free, top, power, takes_arrow, ends_bare, is_call, IsOperand, HasSuffix, IsCallable, AreArguments, AreArrayItems, AreValues, FitsListing, FitsLeft, IsKey, Proper, AreProperItems, IsProperLead, AreProperPieces, IsProperClass, AreProperSteps}
-use Rattle.php_ast.specs.Machine.{Nothing, Form, Holder, of_call, of_new, of_list, Frame, in_enclosed, in_items, in_index, in_computed, in_step, in_part, in_then, in_else, in_short, in_prefix, in_binary, in_instance, in_assign, in_yield, in_yield_value, Stack, Mode, need, have, have_call, due_enclosed, due_listed, at_items, at_value, at_exit, at_exit_paren, at_static, at_static_colons, at_template, at_index, at_arrow, at_new, at_class, at_step, at_question, at_assign, at_yield, level, has_paren, is_array, holder_front, front}
+use Rattle.php_ast.specs.Machine.{Nothing, Form, Holder, of_call, of_new, of_list, OpenForm, enclosed_open, items_open, index_open, computed_open, step_open, part_open, then_open, else_open, short_open, prefix_open, binary_open, instance_open, assign_open, yield_open, yield_value_open, OpenForms, State, expects, holds, holds_call, due_enclosed, due_listed, past_items, past_value, past_exit, past_exit_paren, past_static, past_static_colons, past_template, past_index, past_arrow, past_new, past_class, past_step, past_question, past_assign, past_yield, least_power, has_paren, is_array, holder_front, opening_parts}
 use Rattle.php_ast.proofs.Signs.{enclosure_word, listing_word}
 
 -- ---- lists
@@ -44,50 +44,50 @@ pub record SoundItems (h : Holder) (items : Items Nothing) : Type 0 where
 
 -- ---- open forms
 
-abbrev pub SoundAt : Frame → Type 0
-SoundAt (in_enclosed enclosure) = Unit {0}
-SoundAt (in_items h items lead) = SoundItems h items × SoundLead h lead × IsProperLead lead
-SoundAt (in_index a) = HasSuffix a × Proper a
-SoundAt (in_computed a) = HasSuffix a × Proper a
-SoundAt (in_step steps) = AreProperSteps steps
-SoundAt (in_part pieces) = AreProperPieces pieces
-SoundAt (in_then c) = FitsLeft choice_row c × Proper c
-SoundAt (in_else c a) = FitsLeft choice_row c × (ends_bare a ≡ false) × Proper c × Proper a
-SoundAt (in_short c) = FitsLeft choice_row c × Proper c
-SoundAt (in_prefix op) = Unit {0}
-SoundAt (in_binary op l) = FitsLeft (binary_row op) l × Proper l
-SoundAt (in_instance l) = FitsLeft instance_row l × Proper l
-SoundAt (in_assign how l) = IsOperand l × Proper l
-SoundAt in_yield = Unit {0}
-SoundAt (in_yield_value k) = (yield_power < power k) × IsKey k × Proper k
+abbrev pub IsSoundAt : OpenForm → Type 0
+IsSoundAt (enclosed_open enclosure) = Unit {0}
+IsSoundAt (items_open h items lead) = SoundItems h items × SoundLead h lead × IsProperLead lead
+IsSoundAt (index_open a) = HasSuffix a × Proper a
+IsSoundAt (computed_open a) = HasSuffix a × Proper a
+IsSoundAt (step_open steps) = AreProperSteps steps
+IsSoundAt (part_open pieces) = AreProperPieces pieces
+IsSoundAt (then_open c) = FitsLeft choice_row c × Proper c
+IsSoundAt (else_open c a) = FitsLeft choice_row c × (ends_bare a ≡ false) × Proper c × Proper a
+IsSoundAt (short_open c) = FitsLeft choice_row c × Proper c
+IsSoundAt (prefix_open op) = Unit {0}
+IsSoundAt (binary_open op l) = FitsLeft (binary_row op) l × Proper l
+IsSoundAt (instance_open l) = FitsLeft instance_row l × Proper l
+IsSoundAt (assign_open how l) = IsOperand l × Proper l
+IsSoundAt yield_open = Unit {0}
+IsSoundAt (yield_value_open k) = (yield_power < power k) × IsKey k × Proper k
 
 -- the power of the form when it is completed
-abbrev pub power_at : Frame → ℕ
-power_at (in_then c) = choice_row.power
-power_at (in_else c a) = choice_row.power
-power_at (in_short c) = choice_row.power
-power_at (in_prefix op) = free
-power_at (in_binary op l) = (binary_row op).power
-power_at (in_instance l) = instance_row.power
-power_at (in_assign how l) = free
-power_at in_yield = free
-power_at (in_yield_value k) = free
-power_at _ = top
+abbrev pub power_in : OpenForm → ℕ
+power_in (then_open c) = choice_row.power
+power_in (else_open c a) = choice_row.power
+power_in (short_open c) = choice_row.power
+power_in (prefix_open op) = free
+power_in (binary_open op l) = (binary_row op).power
+power_in (instance_open l) = instance_row.power
+power_in (assign_open how l) = free
+power_in yield_open = free
+power_in (yield_value_open k) = free
+power_in _ = top
 
-abbrev pub Sound : Stack → Type 0
-Sound [] = Unit {0}
-Sound (f ∷ s) = SoundAt f × (level s ≤ power_at f) × Sound s
+abbrev pub IsSound : OpenForms → Type 0
+IsSound [] = Unit {0}
+IsSound (f ∷ s) = IsSoundAt f × (least_power s ≤ power_in f) × IsSound s
 
 -- a call is no class behind `instanceof`
-abbrev pub Seats : Form → Stack → Type 0
-Seats e (in_instance l ∷ s) = is_call e ≡ false
+abbrev pub Seats : Form → OpenForms → Type 0
+Seats e (instance_open l ∷ s) = is_call e ≡ false
 Seats e _ = Unit {0}
 
--- a tree that may stand in the open forms
-pub record Fits (e : Form) (s : Stack) : Type 0 where
+-- the innermost open form can take the tree
+pub record IsFitting (e : Form) (s : OpenForms) : Type 0 where
   pub proper : Proper e
-  pub near : level s ≤ power e
-  pub sound : Sound s
+  pub near : least_power s ≤ power e
+  pub sound : IsSound s
   pub seats : Seats e s
 
 -- a tree at whose end no `yield` is open
@@ -95,50 +95,50 @@ pub record Closed (e : Form) : Type 0 where
   pub no_arrow : takes_arrow e ≡ false
   pub not_bare : ends_bare e ≡ false
 
-abbrev pub IsGood : Mode → Type 0
-IsGood (need s) = Sound s
-IsGood (have e s) = Fits e s × Closed e
-IsGood (have_call e s) = (is_call e ≡ true) × Proper e × Sound s × Closed e
-IsGood (due_enclosed enclosure s) = Sound s
-IsGood (due_listed listing s) = (has_paren (of_list listing) ≡ true) × Sound s
-IsGood (at_items h items s) = SoundItems h items × Sound s
-IsGood (at_value h items k s) = SoundItems h items × (is_array h ≡ true) × IsKey k × Proper k × Sound s
-IsGood (at_exit s) = Sound s
-IsGood (at_exit_paren s) = Sound s
-IsGood (at_static s) = Sound s
-IsGood (at_static_colons s) = Sound s
-IsGood (at_template pieces s) = AreProperPieces pieces × Sound s
-IsGood (at_index e s) = HasSuffix e × Proper e × Sound s
-IsGood (at_arrow arrow e s) = HasSuffix e × Proper e × Sound s
-IsGood (at_new s) = Sound s
-IsGood (at_class class s) = IsProperClass class × Sound s
-IsGood (at_step steps s) = AreProperSteps steps × Sound s
-IsGood (at_question c s) = FitsLeft choice_row c × Proper c × (level s ≤ choice_row.power) × Sound s
-IsGood (at_assign l s) = IsOperand l × Proper l × (level s ≤ free) × Sound s
-IsGood (at_yield s) = (level s ≤ free) × Sound s
+abbrev pub IsSoundState : State → Type 0
+IsSoundState (expects s) = IsSound s
+IsSoundState (holds e s) = IsFitting e s × Closed e
+IsSoundState (holds_call e s) = (is_call e ≡ true) × Proper e × IsSound s × Closed e
+IsSoundState (due_enclosed enclosure s) = IsSound s
+IsSoundState (due_listed listing s) = (has_paren (of_list listing) ≡ true) × IsSound s
+IsSoundState (past_items h items s) = SoundItems h items × IsSound s
+IsSoundState (past_value h items k s) = SoundItems h items × (is_array h ≡ true) × IsKey k × Proper k × IsSound s
+IsSoundState (past_exit s) = IsSound s
+IsSoundState (past_exit_paren s) = IsSound s
+IsSoundState (past_static s) = IsSound s
+IsSoundState (past_static_colons s) = IsSound s
+IsSoundState (past_template pieces s) = AreProperPieces pieces × IsSound s
+IsSoundState (past_index e s) = HasSuffix e × Proper e × IsSound s
+IsSoundState (past_arrow arrow e s) = HasSuffix e × Proper e × IsSound s
+IsSoundState (past_new s) = IsSound s
+IsSoundState (past_class class s) = IsProperClass class × IsSound s
+IsSoundState (past_step steps s) = AreProperSteps steps × IsSound s
+IsSoundState (past_question c s) = FitsLeft choice_row c × Proper c × (least_power s ≤ choice_row.power) × IsSound s
+IsSoundState (past_assign l s) = IsOperand l × Proper l × (least_power s ≤ free) × IsSound s
+IsSoundState (past_yield s) = (least_power s ≤ free) × IsSound s
 
--- ---- the symbols that led to a mode
+-- ---- the symbols that a state stands for
 
-abbrev pub written : Mode → List Symbol → List Symbol
-written (need s) w = front s w
-written (have e s) w = front s (spell e w)
-written (have_call e s) w = front s (spell e w)
-written (due_enclosed parentheses s) w = front s w
-written (due_enclosed enclosure s) w = front s (enclosure_word enclosure ∷ w)
-written (due_listed listing s) w = front s (listing_word listing ∷ w)
-written (at_items h items s) w = front s (holder_front h (spell_items items (comma items w)))
-written (at_value h items k s) w =
-    front s (holder_front h (spell_items items (comma items (spell k (punct mark.DoubleArrow ∷ w)))))
-written (at_exit s) w = front s (keyword word.Exit ∷ w)
-written (at_exit_paren s) w = front s (keyword word.Exit ∷ punct mark.LeftParen ∷ w)
-written (at_static s) w = front s (keyword word.Static ∷ w)
-written (at_static_colons s) w = front s (keyword word.Static ∷ punct mark.DoubleColon ∷ w)
-written (at_template pieces s) w = front s (symbol.quote ∷ spell_pieces pieces w)
-written (at_index e s) w = front s (spell e (punct mark.LeftBracket ∷ w))
-written (at_arrow arrow e s) w = front s (spell e (arrow_symbol arrow ∷ w))
-written (at_new s) w = front s (keyword word.New ∷ w)
-written (at_class class s) w = front s (keyword word.New ∷ spell_class class w)
-written (at_step steps s) w = front s (keyword word.New ∷ spell_steps steps (punct mark.Arrow ∷ w))
-written (at_question c s) w = front s (spell c (punct mark.Question ∷ w))
-written (at_assign l s) w = front s (spell l (punct mark.Assign ∷ w))
-written (at_yield s) w = front s (keyword word.Yield ∷ w)
+abbrev pub symbols_so_far : State → List Symbol → List Symbol
+symbols_so_far (expects s) w = opening_parts s w
+symbols_so_far (holds e s) w = opening_parts s (spell e w)
+symbols_so_far (holds_call e s) w = opening_parts s (spell e w)
+symbols_so_far (due_enclosed parentheses s) w = opening_parts s w
+symbols_so_far (due_enclosed enclosure s) w = opening_parts s (enclosure_word enclosure ∷ w)
+symbols_so_far (due_listed listing s) w = opening_parts s (listing_word listing ∷ w)
+symbols_so_far (past_items h items s) w = opening_parts s (holder_front h (spell_items items (comma items w)))
+symbols_so_far (past_value h items k s) w =
+    opening_parts s (holder_front h (spell_items items (comma items (spell k (punct mark.DoubleArrow ∷ w)))))
+symbols_so_far (past_exit s) w = opening_parts s (keyword word.Exit ∷ w)
+symbols_so_far (past_exit_paren s) w = opening_parts s (keyword word.Exit ∷ punct mark.LeftParen ∷ w)
+symbols_so_far (past_static s) w = opening_parts s (keyword word.Static ∷ w)
+symbols_so_far (past_static_colons s) w = opening_parts s (keyword word.Static ∷ punct mark.DoubleColon ∷ w)
+symbols_so_far (past_template pieces s) w = opening_parts s (symbol.quote ∷ spell_pieces pieces w)
+symbols_so_far (past_index e s) w = opening_parts s (spell e (punct mark.LeftBracket ∷ w))
+symbols_so_far (past_arrow arrow e s) w = opening_parts s (spell e (arrow_symbol arrow ∷ w))
+symbols_so_far (past_new s) w = opening_parts s (keyword word.New ∷ w)
+symbols_so_far (past_class class s) w = opening_parts s (keyword word.New ∷ spell_class class w)
+symbols_so_far (past_step steps s) w = opening_parts s (keyword word.New ∷ spell_steps steps (punct mark.Arrow ∷ w))
+symbols_so_far (past_question c s) w = opening_parts s (spell c (punct mark.Question ∷ w))
+symbols_so_far (past_assign l s) w = opening_parts s (spell l (punct mark.Assign ∷ w))
+symbols_so_far (past_yield s) w = opening_parts s (keyword word.Yield ∷ w)

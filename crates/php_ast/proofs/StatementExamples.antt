@@ -15,7 +15,9 @@ use Rattle.php_ast.specs.Machine.{Form, Nothing}
 use Rattle.php_ast.specs.Statements.{empty, then_also, Name, Statement, block, expression, echo, statics, jump, if_only, if_else, if_else_lists, while, do_while, foreach, switch, try_catch, returning, Statements, no_statement, and_statement, no_elseif, and_elseif, no_elseif_list, single, list_behind_colon, no_case, and_case, no_catch, and_catch}
 use Rattle.php_ast.specs.StatementSpelling.{spell_statement}
 use Rattle.php_ast.specs.ProperStatement.{IsProper}
-use Rattle.php_ast.specs.Declarations.{of_array, of_name, of_class, of_function, renames, uses_by, properties}
+use Rattle.php_ast.specs.StatementNesting.{nests_statement}
+use Rattle.php_ast.specs.ProperDeclaration.{IsProperRule}
+use Rattle.php_ast.specs.Declarations.{Rule, of_array, of_name, of_class, of_function, renames, uses_by, properties}
 use Rattle.php_ast.specs.DeclarationSpelling.{spell_script}
 
 -- ---- shorthand: `$x`, `$x;`, the name `n`, a small integer
@@ -159,3 +161,41 @@ spelled_class : spell_script (then_also empty (of_class (record {
     ∷ keyword word.Public ∷ sv 97 ∷ punct mark.Semicolon ∷ keyword word.Use ∷ sn 84 ∷ punct mark.LeftBrace ∷ sn 84 ∷ punct mark.DoubleColon ∷ sn 109
     ∷ keyword word.As ∷ keyword word.Protected ∷ sn 107 ∷ punct mark.Semicolon ∷ punct mark.RightBrace ∷ punct mark.RightBrace ∷ []
 spelled_class = refl
+
+-- a word of visibility behind `as` is no name
+abbrev public_alias : Rule Nothing
+public_alias = renames tt None (tree.named tt (109 ∷ [])) None (Some (tree.reserved tt word.Public))
+
+alias-improper : IsProperRule public_alias → ⊥
+alias-improper p = let e : true ≡ false = p.1.1 in cc
+
+-- ---- nesting: each construct at its opening, first, last and closing token
+
+-- `{ $a; }`
+nests_block : nests_statement (block tt (one (line 97))) 0 [] ≡ 0 ∷ 1 ∷ 1 ∷ 1 ∷ []
+nests_block = refl
+
+-- `while ($a) $b;` and `while ($a) {}`
+nests_while : nests_statement (while tt (v 97) (single (line 98))) 0 [] ≡ 0 ∷ 0 ∷ 1 ∷ 1 ∷ 1 ∷ 1 ∷ []
+nests_while = refl
+
+nests_while_block : nests_statement (while tt (v 97) (single (block tt no_statement))) 0 [] ≡ 0 ∷ 0 ∷ 1 ∷ 1 ∷ 0 ∷ 1 ∷ []
+nests_while_block = refl
+
+-- `while ($a): $b; endwhile;`
+nests_endwhile : nests_statement (while tt (v 97) (list_behind_colon (one (line 98)))) 0 [] ≡ 0 ∷ 0 ∷ 1 ∷ 1 ∷ 0 ∷ 1 ∷ 1 ∷ 0 ∷ 0 ∷ []
+nests_endwhile = refl
+
+-- `if ($a) $b; else $c;`
+nests_else : nests_statement (if_else tt (v 97) (line 98) no_elseif (line 99)) 0 [] ≡ 0 ∷ 0 ∷ 1 ∷ 1 ∷ 1 ∷ 1 ∷ 0 ∷ 1 ∷ 1 ∷ []
+nests_else = refl
+
+-- `switch ($a): case $b; $c; endswitch;`: what stands behind a label is as deep as the label
+nests_switch : nests_statement (switch tt (v 97) switch_form.Colon (and_case no_case tt (Some (v 98)) case_end.Semicolon (one (line 99)))) 0 []
+    ≡ 0 ∷ 0 ∷ 1 ∷ 1 ∷ 0 ∷ 1 ∷ 1 ∷ 1 ∷ 1 ∷ 1 ∷ 0 ∷ 0 ∷ []
+nests_switch = refl
+
+-- `try {} catch (A $e) {}`
+nests_try : nests_statement (try_catch tt no_statement (and_catch no_catch (then_also empty (n 65)) (n 101) no_statement)) 0 []
+    ≡ 0 ∷ 0 ∷ 1 ∷ 0 ∷ 0 ∷ 1 ∷ 1 ∷ 1 ∷ 0 ∷ 1 ∷ []
+nests_try = refl

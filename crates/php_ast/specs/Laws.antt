@@ -7,10 +7,10 @@ use Rattle.php_ast.specs.Spelling.{spell}
 use Rattle.php_ast.specs.Proper.{Proper, takes_arrow, ends_bare}
 use Rattle.php_ast.specs.View.{Note}
 use Rattle.php_ast.specs.Placed.{form_of, IsPlaced}
-use Rattle.php_ast.specs.Sign.{Next, other, next, weight_of, is_arrow, ends_yield}
+use Rattle.php_ast.specs.Sign.{Continuation, neither, continuation, strength_of, is_arrow, ends_yield}
 use Rattle.php_ast.specs.Nesting.{nests}
-use Rattle.php_ast.specs.Machine.{Form, Outcome, need, read}
-use Rattle.php_ast.specs.Depth.{trace}
+use Rattle.php_ast.specs.Machine.{Form, Reading, expects, read}
+use Rattle.php_ast.specs.Depth.{depths_read}
 
 -- ---- what symbols spell and begin
 
@@ -18,7 +18,7 @@ abbrev pub Spells : Form → List Symbol → Type 0
 Spells e w = Proper e × (spell e [] ≡ w)
 
 -- the symbols begin an expression
-pub record IsBegun (w : List Symbol) : Type 0 where
+pub record BeginsExpression (w : List Symbol) : Type 0 where
   pub tree : Form
   pub rest : List Symbol
   pub spelled : Spells tree (w ++ rest)
@@ -27,11 +27,11 @@ pub record IsBegun (w : List Symbol) : Type 0 where
 
 -- The tree is proper, and its spelling is what was read and what it lacks; what was read and what is left
 -- are all the symbols.
-pub record BeginsWith (w : List Symbol) (o : Outcome) : Type 0 where
+pub record BeginsWith (w : List Symbol) (o : Reading) : Type 0 where
   pub proper : Proper o.tree
   pub done : List Symbol
-  pub whole : w ≡ done ++ o.left
-  pub spelled : spell o.tree [] ≡ done ++ o.lacked
+  pub whole : w ≡ done ++ o.unread
+  pub spelled : spell o.tree [] ≡ done ++ o.missing
 
 abbrev pub ReadingBegins : Type 0
 ReadingBegins = (w : List Symbol) → BeginsWith w (read w)
@@ -39,19 +39,19 @@ ReadingBegins = (w : List Symbol) → BeginsWith w (read w)
 -- ---- the spelling of a proper tree is read back
 
 -- what a list begins with
-abbrev pub head_next : List Symbol → Next
-head_next [] = other
-head_next (t ∷ w) = next t
+abbrev pub head_continuation : List Symbol → Continuation
+head_continuation [] = neither
+head_continuation (t ∷ w) = continuation t
 
 -- An expression ends in front of these symbols: the first one is no operator and no suffix, belongs to no
 -- `yield` at its end, and may stand behind a `yield` alone where one is there.
 pub record EndsBefore (e : Form) (v : List Symbol) : Type 0 where
-  pub draws_nothing : weight_of (head_next v) ≡ 0
-  pub no_arrow : is_arrow (head_next v) ≡ true → takes_arrow e ≡ false
-  pub after_bare : ends_bare e ≡ true → ends_yield (head_next v) ≡ true
+  pub draws_nothing : strength_of (head_continuation v) ≡ 0
+  pub no_arrow : is_arrow (head_continuation v) ≡ true → takes_arrow e ≡ false
+  pub after_bare : ends_bare e ≡ true → ends_yield (head_continuation v) ≡ true
 
 abbrev pub ReadsBack : Type 0
-ReadsBack = (e : Form) (v : List Symbol) → Proper e → EndsBefore e v → read (spell e v) ≡ record { tree = e; lacked = []; left = v }
+ReadsBack = (e : Form) (v : List Symbol) → Proper e → EndsBefore e v → read (spell e v) ≡ record { tree = e; missing = []; unread = v }
 
 -- ---- one tree
 
@@ -71,10 +71,10 @@ OneTree = (tokens : List Token) (at : ℕ) (w : List Token) (a b : Tree Note) �
 
 -- The nesting that a reading counts at each symbol is that of the tree.
 abbrev pub NestingAgrees : Type 0
-NestingAgrees = (e : Form) (v : List Symbol) → Proper e → EndsBefore e v → trace (need []) (spell e v) ≡ nests e 0 []
+NestingAgrees = (e : Form) (v : List Symbol) → Proper e → EndsBefore e v → depths_read (expects []) (spell e v) ≡ nests e 0 []
 
 -- ---- the exact place
 
 -- The symbols read begin an expression, and no longer do so with one more.
 abbrev pub StopsExactly : Type 0
-StopsExactly = (w done : List Symbol) (t : Symbol) (v : List Symbol) → w ≡ done ++ t ∷ v → (read w).left ≡ t ∷ v → IsBegun (done ++ t ∷ []) → ⊥
+StopsExactly = (w done : List Symbol) (t : Symbol) (v : List Symbol) → w ≡ done ++ t ∷ v → (read w).unread ≡ t ∷ v → BeginsExpression (done ++ t ∷ []) → ⊥

@@ -16,6 +16,8 @@ pub mod Rules
 pub mod Statements
 pub mod StatementSpelling
 pub mod ProperStatement
+pub mod StatementNesting
 pub mod Declarations
 pub mod DeclarationSpelling
+pub mod ProperDeclaration
 pub mod StatementView

@@ -32,7 +32,7 @@ abbrev pub comma_nests : {S : Type 0} → Items S → ℕ → List ℕ → List 
 comma_nests none d w = w
 comma_nests _ d w = d ∷ w
 
--- the nesting of each token of a tree that stands at nesting d, in front of those of what follows
+-- the depths of the tokens of a tree that stands at depth d, before the depths of what follows
 abbrev mutual
   pub nests : {S : Type 0} → Tree S → ℕ → List ℕ → List ℕ
   nests (leaf spot l) d w = d ∷ w

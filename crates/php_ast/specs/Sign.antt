@@ -1,4 +1,4 @@
--- What a symbol may do: begin an expression, or go on with one.
+-- The roles of a symbol: what it begins where an expression is due, and what it does behind one.
 use Rattle.std.specs.Prelude.{ℕ, Bool, true, false, Option, Some, None}
 use Rattle.php_lex.specs.declared.kind.Keyword.{Keyword}
 use Rattle.php_lex.specs.declared.kind.Keyword.TheVariants as word
@@ -25,82 +25,82 @@ use Rattle.php_ast.specs.Proper.{free}
 
 -- ---- at the beginning of an expression
 
-pub data First : Type 0 where
-  is_leaf : Leaf → First
+pub data Beginning : Type 0 where
+  is_leaf : Leaf → Beginning
   -- `static`, the start of a text with parts, `exit`, `new`, `yield`
-  is_static : First
-  is_quote : First
-  is_exit : First
-  is_new : First
-  is_yield : First
+  is_static : Beginning
+  is_quote : Beginning
+  is_exit : Beginning
+  is_new : Beginning
+  is_yield : Beginning
   -- `(`, `empty`
-  encloses : Enclosure → First
+  encloses : Enclosure → Beginning
   -- `[`, `array`, `list`, `isset`
-  lists : Listing → First
-  operates : Prefix → First
-  nothing : First
+  lists : Listing → Beginning
+  prefixes : Prefix → Beginning
+  begins_nothing : Beginning
 
-abbrev pub first_keyword : Keyword → First
-first_keyword word.Array = lists (array form.Array)
-first_keyword word.List = lists (array form.List)
-first_keyword word.IsSet = lists isset
-first_keyword word.Empty = encloses emptiness
-first_keyword word.Exit = is_exit
-first_keyword word.New = is_new
-first_keyword word.Static = is_static
-first_keyword word.Yield = is_yield
-first_keyword word.Clone = operates prefix.Clone
-first_keyword word.Print = operates prefix.Print
-first_keyword word.YieldFrom = operates prefix.YieldFrom
-first_keyword word.LineNumber = is_leaf (tree.magic magic.Line)
-first_keyword word.ClassName = is_leaf (tree.magic magic.Class)
-first_keyword word.FunctionName = is_leaf (tree.magic magic.Function)
-first_keyword word.MethodName = is_leaf (tree.magic magic.Method)
-first_keyword _ = nothing
+abbrev pub beginning_keyword : Keyword → Beginning
+beginning_keyword word.Array = lists (array form.Array)
+beginning_keyword word.List = lists (array form.List)
+beginning_keyword word.IsSet = lists isset
+beginning_keyword word.Empty = encloses emptiness
+beginning_keyword word.Exit = is_exit
+beginning_keyword word.New = is_new
+beginning_keyword word.Static = is_static
+beginning_keyword word.Yield = is_yield
+beginning_keyword word.Clone = prefixes prefix.Clone
+beginning_keyword word.Print = prefixes prefix.Print
+beginning_keyword word.YieldFrom = prefixes prefix.YieldFrom
+beginning_keyword word.LineNumber = is_leaf (tree.magic magic.Line)
+beginning_keyword word.ClassName = is_leaf (tree.magic magic.Class)
+beginning_keyword word.FunctionName = is_leaf (tree.magic magic.Function)
+beginning_keyword word.MethodName = is_leaf (tree.magic magic.Method)
+beginning_keyword _ = begins_nothing
 
-abbrev pub first_punct : Punct → First
-first_punct mark.LeftParen = encloses parentheses
-first_punct mark.LeftBracket = lists (array form.Brackets)
-first_punct mark.PlusPlus = operates prefix.Increment
-first_punct mark.MinusMinus = operates prefix.Decrement
-first_punct mark.Tilde = operates prefix.BitNot
-first_punct mark.At = operates prefix.Silence
-first_punct mark.Plus = operates prefix.Plus
-first_punct mark.Minus = operates prefix.Minus
-first_punct mark.Bang = operates prefix.Not
-first_punct _ = nothing
+abbrev pub beginning_punct : Punct → Beginning
+beginning_punct mark.LeftParen = encloses parentheses
+beginning_punct mark.LeftBracket = lists (array form.Brackets)
+beginning_punct mark.PlusPlus = prefixes prefix.Increment
+beginning_punct mark.MinusMinus = prefixes prefix.Decrement
+beginning_punct mark.Tilde = prefixes prefix.BitNot
+beginning_punct mark.At = prefixes prefix.Silence
+beginning_punct mark.Plus = prefixes prefix.Plus
+beginning_punct mark.Minus = prefixes prefix.Minus
+beginning_punct mark.Bang = prefixes prefix.Not
+beginning_punct _ = begins_nothing
 
-abbrev pub first_cast : Cast → First
-first_cast to.Int = operates prefix.ToInt
-first_cast to.Bool = operates prefix.ToBool
-first_cast to.Str = operates prefix.ToText
-first_cast to.Arr = operates prefix.ToArray
-first_cast to.Other = nothing
+abbrev pub beginning_cast : Cast → Beginning
+beginning_cast to.Int = prefixes prefix.ToInt
+beginning_cast to.Bool = prefixes prefix.ToBool
+beginning_cast to.Str = prefixes prefix.ToText
+beginning_cast to.Arr = prefixes prefix.ToArray
+beginning_cast to.Other = begins_nothing
 
-abbrev pub first : Symbol → First
-first (symbol.variable text) = is_leaf (tree.variable text)
-first (symbol.int n) = is_leaf (tree.int n)
-first (symbol.string text) = is_leaf (tree.string text)
-first (symbol.name text) = is_leaf (tree.name text)
-first symbol.quote = is_quote
-first (keyword k) = first_keyword k
-first (punct p) = first_punct p
-first (cast c) = first_cast c
-first _ = nothing
+abbrev pub beginning : Symbol → Beginning
+beginning (symbol.variable text) = is_leaf (tree.variable text)
+beginning (symbol.int n) = is_leaf (tree.int n)
+beginning (symbol.string text) = is_leaf (tree.string text)
+beginning (symbol.name text) = is_leaf (tree.name text)
+beginning symbol.quote = is_quote
+beginning (keyword k) = beginning_keyword k
+beginning (punct p) = beginning_punct p
+beginning (cast c) = beginning_cast c
+beginning _ = begins_nothing
 
 -- ---- behind an expression
 
 -- what goes on with an expression
 pub data Draw : Type 0 where
-  goes : Binary → Draw
+  joins : Binary → Draw
   -- `instanceof`, `?`
   checks : Draw
-  asks : Draw
+  chooses : Draw
   sets : Assign → Draw
   counts : Count → Draw
   -- `(`, `[`, `->`, `::`
-  calls : Draw
-  indexes : Draw
+  applies : Draw
+  subscripts : Draw
   selects : Arrow → Draw
 
 -- what ends an expression that stands between two tokens, or goes on with what is around it
@@ -114,104 +114,104 @@ pub data Closer : Type 0 where
   semicolon : Closer
   part_end : Closer
 
-pub data Next : Type 0 where
-  draws : Draw → Next
-  closes : Closer → Next
-  other : Next
+pub data Continuation : Type 0 where
+  draws : Draw → Continuation
+  closes : Closer → Continuation
+  neither : Continuation
 
-abbrev pub next_keyword : Keyword → Next
-next_keyword word.InstanceOf = draws checks
-next_keyword word.And = draws (goes binary.WordAnd)
-next_keyword word.Xor = draws (goes binary.WordXor)
-next_keyword word.Or = draws (goes binary.WordOr)
-next_keyword _ = other
+abbrev pub continuation_keyword : Keyword → Continuation
+continuation_keyword word.InstanceOf = draws checks
+continuation_keyword word.And = draws (joins binary.WordAnd)
+continuation_keyword word.Xor = draws (joins binary.WordXor)
+continuation_keyword word.Or = draws (joins binary.WordOr)
+continuation_keyword _ = neither
 
-abbrev pub next_punct : Punct → Next
-next_punct mark.LeftBracket = draws indexes
-next_punct mark.RightBracket = closes bracket
-next_punct mark.LeftParen = draws calls
-next_punct mark.RightParen = closes paren
-next_punct mark.RightBrace = closes brace
-next_punct mark.Dot = draws (goes binary.Concatenated)
-next_punct mark.Arrow = draws (selects thin)
-next_punct mark.PlusPlus = draws (counts count.Up)
-next_punct mark.MinusMinus = draws (counts count.Down)
-next_punct mark.StarStar = draws (goes binary.Power)
-next_punct mark.Star = draws (goes binary.Times)
-next_punct mark.Plus = draws (goes binary.Plus)
-next_punct mark.Minus = draws (goes binary.Minus)
-next_punct mark.Slash = draws (goes binary.Divided)
-next_punct mark.Percent = draws (goes binary.Remainder)
-next_punct mark.ShiftLeft = draws (goes binary.ShiftedLeft)
-next_punct mark.ShiftRight = draws (goes binary.ShiftedRight)
-next_punct mark.Less = draws (goes binary.Less)
-next_punct mark.Greater = draws (goes binary.Greater)
-next_punct mark.LessEqual = draws (goes binary.LessEqual)
-next_punct mark.GreaterEqual = draws (goes binary.GreaterEqual)
-next_punct mark.EqualEqual = draws (goes binary.Equal)
-next_punct mark.Identical = draws (goes binary.Identical)
-next_punct mark.NotEqual = draws (goes binary.NotEqual)
-next_punct mark.NotIdentical = draws (goes binary.NotIdentical)
-next_punct mark.LessGreater = draws (goes binary.LessGreater)
-next_punct mark.Spaceship = draws (goes binary.Compared)
-next_punct mark.Caret = draws (goes binary.BitXor)
-next_punct mark.Bar = draws (goes binary.BitOr)
-next_punct mark.Ampersand = draws (goes binary.BitAnd)
-next_punct mark.AndAnd = draws (goes binary.And)
-next_punct mark.BarBar = draws (goes binary.Or)
-next_punct mark.Question = draws asks
-next_punct mark.Colon = closes colon
-next_punct mark.Semicolon = closes semicolon
-next_punct mark.Assign = draws (sets assign.Plain)
-next_punct mark.PowerAssign = draws (sets assign.Power)
-next_punct mark.StarAssign = draws (sets assign.Times)
-next_punct mark.SlashAssign = draws (sets assign.Divided)
-next_punct mark.PercentAssign = draws (sets assign.Remainder)
-next_punct mark.PlusAssign = draws (sets assign.Plus)
-next_punct mark.MinusAssign = draws (sets assign.Minus)
-next_punct mark.DotAssign = draws (sets assign.Concatenated)
-next_punct mark.ShiftLeftAssign = draws (sets assign.ShiftedLeft)
-next_punct mark.ShiftRightAssign = draws (sets assign.ShiftedRight)
-next_punct mark.AmpersandAssign = draws (sets assign.BitAnd)
-next_punct mark.CaretAssign = draws (sets assign.BitXor)
-next_punct mark.BarAssign = draws (sets assign.BitOr)
-next_punct mark.Comma = closes comma
-next_punct mark.QuestionQuestion = draws (goes binary.Coalesced)
-next_punct mark.DoubleArrow = closes double_arrow
-next_punct mark.DoubleColon = draws (selects colons)
-next_punct _ = other
+abbrev pub continuation_punct : Punct → Continuation
+continuation_punct mark.LeftBracket = draws subscripts
+continuation_punct mark.RightBracket = closes bracket
+continuation_punct mark.LeftParen = draws applies
+continuation_punct mark.RightParen = closes paren
+continuation_punct mark.RightBrace = closes brace
+continuation_punct mark.Dot = draws (joins binary.Concatenated)
+continuation_punct mark.Arrow = draws (selects thin)
+continuation_punct mark.PlusPlus = draws (counts count.Up)
+continuation_punct mark.MinusMinus = draws (counts count.Down)
+continuation_punct mark.StarStar = draws (joins binary.Power)
+continuation_punct mark.Star = draws (joins binary.Times)
+continuation_punct mark.Plus = draws (joins binary.Plus)
+continuation_punct mark.Minus = draws (joins binary.Minus)
+continuation_punct mark.Slash = draws (joins binary.Divided)
+continuation_punct mark.Percent = draws (joins binary.Remainder)
+continuation_punct mark.ShiftLeft = draws (joins binary.ShiftedLeft)
+continuation_punct mark.ShiftRight = draws (joins binary.ShiftedRight)
+continuation_punct mark.Less = draws (joins binary.Less)
+continuation_punct mark.Greater = draws (joins binary.Greater)
+continuation_punct mark.LessEqual = draws (joins binary.LessEqual)
+continuation_punct mark.GreaterEqual = draws (joins binary.GreaterEqual)
+continuation_punct mark.EqualEqual = draws (joins binary.Equal)
+continuation_punct mark.Identical = draws (joins binary.Identical)
+continuation_punct mark.NotEqual = draws (joins binary.NotEqual)
+continuation_punct mark.NotIdentical = draws (joins binary.NotIdentical)
+continuation_punct mark.LessGreater = draws (joins binary.LessGreater)
+continuation_punct mark.Spaceship = draws (joins binary.Compared)
+continuation_punct mark.Caret = draws (joins binary.BitXor)
+continuation_punct mark.Bar = draws (joins binary.BitOr)
+continuation_punct mark.Ampersand = draws (joins binary.BitAnd)
+continuation_punct mark.AndAnd = draws (joins binary.And)
+continuation_punct mark.BarBar = draws (joins binary.Or)
+continuation_punct mark.Question = draws chooses
+continuation_punct mark.Colon = closes colon
+continuation_punct mark.Semicolon = closes semicolon
+continuation_punct mark.Assign = draws (sets assign.Plain)
+continuation_punct mark.PowerAssign = draws (sets assign.Power)
+continuation_punct mark.StarAssign = draws (sets assign.Times)
+continuation_punct mark.SlashAssign = draws (sets assign.Divided)
+continuation_punct mark.PercentAssign = draws (sets assign.Remainder)
+continuation_punct mark.PlusAssign = draws (sets assign.Plus)
+continuation_punct mark.MinusAssign = draws (sets assign.Minus)
+continuation_punct mark.DotAssign = draws (sets assign.Concatenated)
+continuation_punct mark.ShiftLeftAssign = draws (sets assign.ShiftedLeft)
+continuation_punct mark.ShiftRightAssign = draws (sets assign.ShiftedRight)
+continuation_punct mark.AmpersandAssign = draws (sets assign.BitAnd)
+continuation_punct mark.CaretAssign = draws (sets assign.BitXor)
+continuation_punct mark.BarAssign = draws (sets assign.BitOr)
+continuation_punct mark.Comma = closes comma
+continuation_punct mark.QuestionQuestion = draws (joins binary.Coalesced)
+continuation_punct mark.DoubleArrow = closes double_arrow
+continuation_punct mark.DoubleColon = draws (selects colons)
+continuation_punct _ = neither
 
-abbrev pub next : Symbol → Next
-next (keyword k) = next_keyword k
-next (punct p) = next_punct p
-next symbol.end_part = closes part_end
-next _ = other
+abbrev pub continuation : Symbol → Continuation
+continuation (keyword k) = continuation_keyword k
+continuation (punct p) = continuation_punct p
+continuation symbol.end_part = closes part_end
+continuation _ = neither
 
 -- How tightly a symbol draws what stands before it: an operator with its power, the others in the order in
 -- which operands are open to them. What ends an expression draws nothing.
-abbrev pub draw_weight : Draw → ℕ
-draw_weight (goes op) = (binary_row op).power
-draw_weight checks = instance_row.power
-draw_weight asks = choice_row.power
-draw_weight (sets op) = free
-draw_weight (counts c) = free
-draw_weight indexes = 100
-draw_weight (selects arrow) = 100
-draw_weight calls = 110
+abbrev pub draw_strength : Draw → ℕ
+draw_strength (joins op) = (binary_row op).power
+draw_strength checks = instance_row.power
+draw_strength chooses = choice_row.power
+draw_strength (sets op) = free
+draw_strength (counts c) = free
+draw_strength subscripts = 100
+draw_strength (selects arrow) = 100
+draw_strength applies = 110
 
-abbrev pub weight_of : Next → ℕ
-weight_of (draws d) = draw_weight d
-weight_of _ = 0
+abbrev pub strength_of : Continuation → ℕ
+strength_of (draws d) = draw_strength d
+strength_of _ = 0
 
-abbrev pub weight : Symbol → ℕ
-weight t = weight_of (next t)
+abbrev pub strength : Symbol → ℕ
+strength t = strength_of (continuation t)
 
-abbrev pub is_arrow : Next → Bool
+abbrev pub is_arrow : Continuation → Bool
 is_arrow (closes double_arrow) = true
 is_arrow _ = false
 
 -- A `yield` stands alone in front of these.
-abbrev pub ends_yield : Next → Bool
+abbrev pub ends_yield : Continuation → Bool
 ends_yield (closes paren) = true
 ends_yield (closes semicolon) = true
 ends_yield (closes comma) = true
@@ -238,14 +238,14 @@ pub data Mark : Type 0 where
   ends_item : Closer → Mark
   begins : Mark
 
-abbrev pub mark_of : Next → Mark
+abbrev pub mark_of : Continuation → Mark
 mark_of (closes c) = ends_item c
-mark_of (draws (goes binary.BitAnd)) = refers
+mark_of (draws (joins binary.BitAnd)) = refers
 mark_of _ = begins
 
 abbrev pub item_mark : Symbol → Mark
 item_mark (punct mark.Ellipsis) = spreads
-item_mark t = mark_of (next t)
+item_mark t = mark_of (continuation t)
 
 abbrev pub is_ampersand : Symbol → Bool
 is_ampersand (punct mark.Ampersand) = true

@@ -112,7 +112,7 @@ abbrev pub try_view : Note → Statements Note → Catches Note → Option (List
 try_view at body catches None = try_catch at body catches
 try_view at body catches (Some last) = try_finally at body catches (list_view last)
 
--- one level, with the trees of the parts
+-- one node, whose parts are trees already
 abbrev pub statement_step : Stmt-F (Statement Note) → Statement Note
 statement_step (Stmt-F.Block spot ss) = block (note spot) (list_view ss)
 statement_step (Stmt-F.Empty spot) = blank (note spot)

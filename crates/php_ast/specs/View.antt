@@ -1,4 +1,4 @@
--- The tree that an expression of the program stands for.
+-- From the expressions of the program to the trees of the grammar.
 use Rattle.std.specs.Prelude.{ℕ, List, [], ◌∷◌, Option, Some, None}
 use Rattle.php_lex.specs.declared.kind.Keyword.{Keyword}
 use Rattle.php_ast.specs.declared.spot.Spot.{Spot}
@@ -20,7 +20,7 @@ use Rattle.php_ast.specs.declared.expression.Member.TheVariants as member
 use Rattle.php_ast.specs.declared.expression.Class as behind_new
 use Rattle.php_ast.specs.declared.expression.Class.TheVariants as class
 use Rattle.php_ast.specs.declared.expression.ClassStep.{ClassStep}
-use Rattle.php_ast.specs.declared.expression.ClassStep.TheVariants as step
+use Rattle.php_ast.specs.declared.expression.ClassStep.TheVariants as class_step
 use Rattle.php_ast.specs.declared.expression.Link.{Link}
 use Rattle.php_ast.specs.declared.expression.Link.TheVariants as link
 use Rattle.php_ast.specs.Tree.{variable, int, string, name, magic, parentheses, emptiness, exiting, array, isset, thin, colons, by_value, by_reference, Member, named, reserved, held}
@@ -80,8 +80,8 @@ values_from before (e ∷ es) = values_from (and before plain e) es
 -- ---- the class behind `new`
 
 abbrev pub step_more : Steps Note → ClassStep (Tree Note) → Steps Note
-step_more before (step.Property w) = step_property before (word_view w)
-step_more before (step.Index e) = step_index before e
+step_more before (class_step.Property w) = step_property before (word_view w)
+step_more before (class_step.Index e) = step_index before e
 
 abbrev pub steps_from : Steps Note → List (ClassStep (Tree Note)) → Steps Note
 steps_from before [] = before
@@ -103,29 +103,29 @@ property_of e (arrow.Word w) = selected e thin (word_view w)
 property_of e (arrow.Variable n) = selected e thin (held (note n.spot) n.text)
 property_of e (arrow.Computed key) = computed e key
 
-abbrev pub suffixed : Tree Note → Suffix (Tree Note) → Tree Note
-suffixed e suffix.Append = append e
-suffixed e (suffix.Index key) = index e key
-suffixed e (suffix.Property named_by) = property_of e named_by
-suffixed e (suffix.Member m) = selected e colons (member_view m)
-suffixed e (suffix.Call arguments) = call e (arguments_from none arguments)
+abbrev pub with_suffix : Tree Note → Suffix (Tree Note) → Tree Note
+with_suffix e suffix.Append = append e
+with_suffix e (suffix.Index key) = index e key
+with_suffix e (suffix.Property named_by) = property_of e named_by
+with_suffix e (suffix.Member m) = selected e colons (member_view m)
+with_suffix e (suffix.Call arguments) = call e (arguments_from none arguments)
 
-abbrev pub chain : Tree Note → List (Suffix (Tree Note)) → Tree Note
-chain e [] = e
-chain e (x ∷ xs) = chain (suffixed e x) xs
+abbrev pub with_suffixes : Tree Note → List (Suffix (Tree Note)) → Tree Note
+with_suffixes e [] = e
+with_suffixes e (x ∷ xs) = with_suffixes (with_suffix e x) xs
 
-abbrev pub linked : Tree Note → Link (Tree Note) → Tree Note
-linked e (link.Operator op r) = binary op e r
-linked e (link.Choice a b) = choice e a b
-linked e (link.ShortChoice b) = short_choice e b
+abbrev pub with_link : Tree Note → Link (Tree Note) → Tree Note
+with_link e (link.Operator op r) = binary op e r
+with_link e (link.Choice a b) = choice e a b
+with_link e (link.ShortChoice b) = short_choice e b
 
-abbrev pub linked_all : Tree Note → List (Link (Tree Note)) → Tree Note
-linked_all e [] = e
-linked_all e (x ∷ xs) = linked_all (linked e x) xs
+abbrev pub with_links : Tree Note → List (Link (Tree Note)) → Tree Note
+with_links e [] = e
+with_links e (x ∷ xs) = with_links (with_link e x) xs
 
 -- ---- the whole
 
--- one level, with the trees of the parts
+-- one node, whose parts are trees already
 abbrev pub view_step : Expr-F (Tree Note) → Tree Note
 view_step (Expr-F.Variable n) = leaf (note n.spot) (variable n.text)
 view_step (Expr-F.Int spot n) = leaf (note spot) (int n)
@@ -141,12 +141,12 @@ view_step (Expr-F.Exit spot) = exit (note spot)
 view_step (Expr-F.ExitEmpty spot) = exit_empty (note spot)
 view_step (Expr-F.ExitWith spot e) = enclosed (note spot) exiting e
 view_step (Expr-F.Magic spot constant) = leaf (note spot) (magic constant)
-view_step (Expr-F.Chain e suffixes) = chain e suffixes
+view_step (Expr-F.Chain e suffixes) = with_suffixes e suffixes
 view_step (Expr-F.New spot c) = new (note spot) (class_view c)
 view_step (Expr-F.NewWith spot c arguments) = new_with (note spot) (class_view c) (arguments_from none arguments)
 view_step (Expr-F.Prefix spot op e) = prefix (note spot) op e
 view_step (Expr-F.Counted e count) = counted e count
-view_step (Expr-F.Run e links) = linked_all e links
+view_step (Expr-F.Run e links) = with_links e links
 view_step (Expr-F.Binary op l r) = binary op l r
 view_step (Expr-F.InstanceOf l r) = instance l r
 view_step (Expr-F.InstanceOfStatic l spot) = static_instance l (note spot)

@@ -3,9 +3,6 @@
 
 mod declaration;
 mod expression;
-
-pub use php_first_tree as first_path;
-
 pub mod laws;
 mod operator;
 mod power;
@@ -19,6 +16,7 @@ pub use declaration::{
 };
 pub use expression::{Argument, Class, ClassStep, Expr, Item, Link, Member, Named, Piece, Suffix};
 pub use operator::{ArrayForm, Assign, Binary, Count, Magic, Prefix};
+pub use php_first_tree as first_path;
 pub use power::{Grouping, Row, prefix_power_of, row_of};
 pub use script::{Script, ScriptItem};
 pub use spot::{Name, Spot, Word};
