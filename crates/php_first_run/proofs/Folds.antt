@@ -1,16 +1,13 @@
 -- Products and sums taken from the left, part by part.
-use Rattle.std.proofs.Common.{◌≡◌, ℕ, zero, suc, ℤ, ◌+◌, ◌*◌, ◌≤◌, ◌<◌, ◌+ℤ◌, ◌-ℤ◌, ◌*ℤ◌, List, [], ◌∷◌, Option, Some, None, map, slice_get, refl, ap, sym, ◌∙◌, arith, rules, length, get_or}
+use Rattle.std.proofs.Common.{◌≡◌, ℕ, zero, suc, ◌+◌, ◌≤◌, ◌<◌, ◌+ℤ◌, ◌-ℤ◌, ◌*ℤ◌, List, [], ◌∷◌, Option, Some, None, map, slice_get, refl, ap, sym, ◌∙◌, arith, length, get_or}
 use Rattle.std.specs.Option.{option_map}
 use Rattle.std.proofs.lemmas.Option.{slice_get-map, slice_get-get_or}
-use Rattle.php_first_tree.specs.Expression.{Expression, int, variable, group, times, plus, minus, product_from, product, joined, sum_from, sum, atom_view, term_parts, product_view, sum_view}
-use Rattle.php_first_tree.specs.declared.Atom.{Atom}
+use Rattle.php_first_tree.specs.Expression.{Expression, int, variable, group, times, plus, minus, product_from, product, joined, sum_from}
 use Rattle.php_first_tree.specs.declared.Term.{Term}
-use Rattle.php_first_tree.specs.declared.Product.{Product}
-use Rattle.php_first_tree.specs.declared.Sum.{Sum}
 use Rattle.php_first_tree.specs.declared.Sign.{Sign}
 use Rattle.php_first_tree.specs.declared.Sign.TheVariants.{Plus, Minus}
 use Rattle.php_first_run.specs.declared.value.Value.{Value}
-use Rattle.php_first_run.specs.Evaluation.{calculated, evaluated, number_of, value_of}
+use Rattle.php_first_run.specs.Evaluation.{calculated, evaluated}
 
 -- a product so far, times further atoms
 abbrev pub product_value : List Value → Option Value → List Expression → Option Value

@@ -10,9 +10,9 @@ use Rattle.php_first_tree.specs.declared.Atom.{Atom}
 use Rattle.php_first_tree.specs.declared.Sum.{Sum}
 use Rattle.php_first_run.specs.Evaluation.{evaluated}
 use Rattle.php_first_tree.specs.Expression as meaning
-use Rattle.php_first_run.specs.Running.{cut_off, overflowed, Effect, Outcome, part_written, echoed, text_of, step, run, followed_by}
+use Rattle.php_first_run.specs.Running.{cut_off, overflowed, Effect, Outcome, part_written, echoed, step, run, followed_by}
 use Rattle.php_first_run.proofs.Lists.{drop_at}
-use Rattle.php_first_run.specs.Walking.{Stream, IsFront, AllWritten, BrokenOff}
+use Rattle.php_first_run.specs.Walking.{Stream, AllWritten, BrokenOff}
 use Rattle.php_first_run.specs.declared.value.Value.{Value}
 
 -- Of these bytes some are written, and the rest is still to be written.

@@ -1,5 +1,5 @@
 -- What a walk over statements or parts leaves of a sink, held against what is to be written.
-use Rattle.std.specs.Prelude.{◌≡◌, ℕ, ◌≤◌, Bool, true, false, List, [], ◌++◌, Option}
+use Rattle.std.specs.Prelude.{◌≡◌, ℕ, ◌≤◌, true, false, List, [], ◌++◌, Option}
 use Rattle.php_base.specs.Counts.{Rose}
 use Rattle.php_base.specs.Written.{GrewBy}
 use Rattle.php_first_run.specs.Running.{Effect, Outcome, Ending, completed, overflowed, cut_off}

@@ -1,17 +1,14 @@
 -- What runs and files come to, held against what is owed.
-use Rattle.std.proofs.Common.{◌≡◌, ℕ, ◌+◌, ◌<◌, ◌≤◌, List, [], ◌∷◌, ◌++◌, length, take, min, Option, Some, None, IsErr, Result, Ok, Err, refl, sym, ap, ◌∙◌, subst, arith}
+use Rattle.std.proofs.Common.{◌≡◌, ℕ, ◌+◌, ◌<◌, ◌≤◌, List, length, take, min, Option, Some, None, refl, sym, ap, ◌∙◌, subst, arith}
 use Rattle.std.proofs.lemmas.List.{take_all, length-take}
-use Rattle.php_base.specs.Counts.{Rose}
 use Rattle.php_base.specs.Files.{File, file_of, TellsNone}
-use Rattle.php_base.specs.Written.{GrewBy}
 use Rattle.php_first_run.specs.Running.{Outcome, Ending, completed, overflowed, cut_off}
-use Rattle.php_first_run.specs.Walking.{Stream, AllWritten, IsFront, Ends, Breaks, Walks}
+use Rattle.php_first_run.specs.Walking.{Stream, IsFront, Ends, Breaks, Walks}
 use Rattle.php_first_run.specs.declared.walking.Stop.{Stop}
 use Rattle.php_first_run.specs.declared.walking.Stop.TheVariants.{Done, Overflow, Cut, SinkFault}
 use Rattle.php_run.specs.declared.answer.Answer as program
-use Rattle.php_run.specs.declared.report.Kind.TheVariants as kind
-use Rattle.php_run.specs.Answer.{Answer, answer_of, ended, without_run, IsOwed}
-use Rattle.php_run.specs.Headline.{IsHeld, IsCutShort, ComesTo, owed, out_failed, starved, write_fault, out_of_memory}
+use Rattle.php_run.specs.Answer.{Answer, answer_of, ended, IsOwed}
+use Rattle.php_run.specs.Headline.{IsHeld, ComesTo, owed, out_failed, starved, write_fault}
 use Rattle.php_run.specs.Shown.{shown, IsAfter, RunComesTo, ran, broke, hungry}
 use Rattle.php_run.specs.Words.{Request}
 

@@ -5,7 +5,7 @@ use Rattle.php_value.specs.declared.fault.Fault.TheVariants as fault
 use Rattle.php_first_tree.specs.Expression.{Statement}
 use Rattle.php_first_run.specs.Running.{Outcome, Ending, completed, overflowed, cut_off, run}
 use Rattle.php_first_run.specs.declared.value.Value.TheVariants.{Null}
-use Rattle.php_run.specs.Words.{Request, shape}
+use Rattle.php_run.specs.Words.{Request}
 use Rattle.php_run.specs.Script.{IsScript}
 use Rattle.php_run.specs.declared.report.Kind.{Kind}
 use Rattle.php_run.specs.declared.report.Kind.TheVariants as kind

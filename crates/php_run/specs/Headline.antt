@@ -1,5 +1,5 @@
 -- What a call may answer, held against what is owed.
-use Rattle.std.specs.Prelude.{◌≡◌, ℕ, ◌<◌, ◌≤◌, Bool, true, false, List, [], ◌++◌, ◌⊎◌, Option, Some, None, codes}
+use Rattle.std.specs.Prelude.{◌≡◌, ℕ, ◌≤◌, Bool, true, false, List, Option, Some, None, codes}
 use Rattle.php_base.specs.Counts.{Rose}
 use Rattle.php_base.specs.Files.{File, file_of}
 use Rattle.php_base.specs.Written.{GrewBy, GrewByPart}

@@ -1,5 +1,5 @@
 -- The answers of the program, as those of the definitions.
-use Rattle.std.specs.Prelude.{◌≡◌, ℕ, List, []}
+use Rattle.std.specs.Prelude.{◌≡◌, ℕ, List}
 use Rattle.php_base.specs.Counts.{Rose}
 use Rattle.php_base.specs.Written.{GrewBy}
 use Rattle.php_first_run.specs.Walking.{Stream}

@@ -1,5 +1,5 @@
-use Rattle.std.proofs.Common.{rules, arith, ◌≡◌, ◌<◌, ℕ, map, drop, slice_get, Some, sym, ap, ◌∙◌}
-use Rattle.php_first_tree.specs.Expression.{atom_view, product_view, sum_view, term_parts}
+use Rattle.std.proofs.Common.{arith, map, sym}
+use Rattle.php_first_tree.specs.Expression.{atom_view, product_view, term_parts}
 use Rattle.php_first_run.proofs.Folds.{evaluated-product_from, evaluated-sum_from, product_first, product_part, sum_first, sum_part, part_at}
 use Rattle.php_first_run.proofs.evaluate.+sums.Goals as goal
 

@@ -1,4 +1,4 @@
-use Rattle.std.proofs.Common.{◌≡◌, ℕ, ◌+◌, ◌*◌, Some, drop, map}
+use Rattle.std.proofs.Common.{◌≡◌, ◌+◌, ◌*◌, drop, map}
 use Rattle.php_first_tree.specs.Expression.{atom_view, product_view, sum_view, term_parts}
 use Rattle.php_first_run.specs.Evaluation.{evaluated}
 use Rattle.php_first_run.proofs.Folds.{parentheses, product_value, sum_value}

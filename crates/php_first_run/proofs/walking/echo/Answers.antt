@@ -1,4 +1,4 @@
-use Rattle.std.proofs.Common.{◌≡◌, ℕ, sym, ap, ◌∙◌, drop, map, ◌+◌, Some, refl}
+use Rattle.std.proofs.Common.{sym, ap, ◌∙◌, drop, map, ◌+◌}
 use Rattle.php_first_tree.specs.Expression.{sum_view}
 use Rattle.php_first_run.specs.Running.{Effect, echoed, text_of}
 use Rattle.php_first_run.proofs.Written.{wrote_broken, wrote_more, echoed-at}

@@ -1,7 +1,6 @@
-use Rattle.std.proofs.Common.{◌≡◌, ℕ, List, ◌++◌, map, drop}
+use Rattle.std.proofs.Common.{map, drop}
 use Rattle.php_first_tree.specs.Expression.{sum_view}
 use Rattle.php_first_run.specs.Running.{echoed}
-use Rattle.php_first_run.specs.Walking.{AllWritten}
 use Rattle.php_first_run.proofs.Written.{SoFar}
 use Rattle.php_first_run.proofs.walking.echo.Given as goal
 

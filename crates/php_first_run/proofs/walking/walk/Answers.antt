@@ -1,4 +1,4 @@
-use Rattle.std.proofs.Common.{◌≡◌, ℕ, ◌+◌, ◌≤◌, sym, ap, ◌∙◌, subst, drop, map}
+use Rattle.std.proofs.Common.{ℕ, ◌+◌, ◌≤◌, sym, ap, ◌∙◌, subst, drop, map}
 use Rattle.std.proofs.lemmas.Bool.{lt-ltb}
 use Rattle.php_first_tree.specs.Expression.{command_view, statement_view}
 use Rattle.php_first_run.specs.Running.{Outcome, step, run}

@@ -1,4 +1,4 @@
-use Rattle.std.proofs.Common.{◌≡◌, ℕ, ◌≤◌, map, drop}
+use Rattle.std.proofs.Common.{map, drop}
 use Rattle.php_first_tree.specs.Expression.{statement_view}
 use Rattle.php_first_run.specs.Running.{run}
 use Rattle.php_first_run.proofs.Written.{RunSoFar}

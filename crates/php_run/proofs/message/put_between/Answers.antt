@@ -1,4 +1,4 @@
-use Rattle.std.proofs.Common.{◌≡◌, ◌++◌}
+use Rattle.std.proofs.Common.{◌++◌}
 use Rattle.php_base.proofs.Growth.{grew-twice}
 use Rattle.php_run.proofs.Parts.{part_of_first, part_of_second}
 use Rattle.php_run.proofs.message.put_between.Goals as goal

@@ -1,8 +1,8 @@
-use Rattle.std.proofs.Common.{◌≡◌, ◌≤◌, ℕ, List, [], length, map, Some, None, subst, sym, refl, arith}
+use Rattle.std.proofs.Common.{◌≡◌, ◌≤◌, ℕ, List, [], length, map, Some, subst, sym, refl, arith}
 use Rattle.php_first_tree.specs.Expression.{statement_view, Statement}
 use Rattle.php_first_run.specs.Walking.{Stream}
 use Rattle.php_first_run.proofs.Written.{nothing_written}
-use Rattle.php_run.specs.Answer.{answer_of, run_of, too_many, read, runs, refused, IsOwedFor}
+use Rattle.php_run.specs.Answer.{answer_of, run_of, too_many, read, runs, refused}
 use Rattle.php_run.specs.Headline.{owed}
 use Rattle.php_run.specs.Script.{IsScript}
 use Rattle.php_run.specs.Shown.{shown}

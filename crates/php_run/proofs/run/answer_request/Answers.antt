@@ -1,7 +1,6 @@
-use Rattle.std.proofs.Common.{◌≡◌, ℕ, List, [], Some, None, refl, sym, ap, ◌∙◌, subst, Option, Err, length, arith, true, false}
-use Rattle.php_base.specs.Files.{File, file_of}
+use Rattle.std.proofs.Common.{◌≡◌, List, [], Some, None, refl, sym, ap, ◌∙◌, subst, Option, Err, length, arith, true, false}
+use Rattle.php_base.specs.Files.{File}
 use Rattle.php_first_run.proofs.Written.{nothing_written}
-use Rattle.php_first_run.specs.Walking.{Stream}
 use Rattle.php_run.specs.Headline.{IsHeld, owed, shelf_failed, starved}
 use Rattle.php_run.specs.Words.{Request}
 use Rattle.php_run.proofs.Comes.{held_bytes, some_held}

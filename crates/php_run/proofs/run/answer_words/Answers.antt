@@ -1,4 +1,4 @@
-use Rattle.std.proofs.Common.{◌≡◌, ℕ, List, [], None, sym, subst, Option}
+use Rattle.std.proofs.Common.{ℕ, List, [], None, sym, subst, Option}
 use Rattle.php_first_run.proofs.Written.{nothing_written}
 use Rattle.php_first_run.specs.Walking.{Stream}
 use Rattle.php_run.specs.Headline.{Called, owed}

@@ -1,4 +1,4 @@
-use Rattle.std.proofs.Common.{◌≡◌, ℕ, List, map, subst, ◌∙◌}
+use Rattle.std.proofs.Common.{ℕ, List, map, subst, ◌∙◌}
 use Rattle.php_first_tree.specs.Expression.{statement_view}
 use Rattle.php_first_run.specs.Running.{run}
 use Rattle.php_first_tree.specs.declared.Statement as tree

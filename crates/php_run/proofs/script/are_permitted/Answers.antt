@@ -1,4 +1,4 @@
-use Rattle.std.proofs.Common.{◌≡◌, ◌&&◌, ◌≤◌, ◌∙◌, Bool, nat_le, length, true, sym, ap, arith}
+use Rattle.std.proofs.Common.{◌&&◌, ◌≤◌, ◌∙◌, length, sym, ap, arith}
 use Rattle.std.specs.List.{list_all}
 use Rattle.php_first_tokens.specs.Steps.{names_of}
 use Rattle.php_run.specs.Script.{is_allowed}

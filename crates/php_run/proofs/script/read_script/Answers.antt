@@ -1,6 +1,5 @@
-use Rattle.std.proofs.Common.{◌≡◌, ℕ, List, length, sym, ap, ◌∙◌, subst, true, false, Bool}
+use Rattle.std.proofs.Common.{◌≡◌, List, length, sym, ap, ◌∙◌, subst, true}
 use Rattle.std.proofs.lemmas.List.{length-map}
-use Rattle.php_first_tree.specs.Expression.{Statement}
 use Rattle.php_first_tokens.specs.declared.token.Token.{Token}
 use Rattle.php_first_tokens.specs.Steps.{names_of}
 use Rattle.php_first_parse.specs.Spelling.{IsSpelling}

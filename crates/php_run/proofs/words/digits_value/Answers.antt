@@ -1,6 +1,5 @@
-use Rattle.std.proofs.Common.{◌≡◌, ℕ, ◌+◌, ◌-◌, ◌*◌, ◌≤◌, drop, sym, ap, ◌∙◌, arith}
-use Rattle.php_first_tokens.specs.Bytes.{numeral_from}
-use Rattle.php_run.proofs.Digits.{digits-at, digit_from, digit_to, numeral-at, numeral-at_least}
+use Rattle.std.proofs.Common.{arith}
+use Rattle.php_run.proofs.Digits.{numeral-at_least}
 use Rattle.php_run.proofs.words.digits_value.Goals as goal
 
 pub returns-in_default : goal.returns-in_default

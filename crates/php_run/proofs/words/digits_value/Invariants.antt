@@ -1,4 +1,4 @@
-use Rattle.std.proofs.Common.{◌≡◌, ℕ, List, true, drop}
+use Rattle.std.proofs.Common.{◌≡◌, true, drop}
 use Rattle.std.specs.List.{list_all}
 use Rattle.php_first_tokens.specs.Bytes.{is_digit, numeral, numeral_from}
 use Rattle.php_run.proofs.words.digits_value.Given as goal
