@@ -2,12 +2,12 @@
 // of the definitions, for every file, every script and every run.
 #![tactic(auto)]
 
-ghost use Rattle.std.specs.Prelude.{◌≡◌, ℕ, ◌≤◌, List, Option};
+ghost use Rattle.std.specs.Prelude.{◌≡◌, ◌≢◌, ℕ, ◌≤◌, List, Option};
 ghost use Rattle.php_ast.specs.Expression.{Statement};
 ghost use Rattle.php_first_tokens.specs.declared.token.Token.{Token};
 ghost use Rattle.php_first_tokens.specs.Cut.{IsCut};
 ghost use Rattle.php_first_run.specs.declared.value.Value.{Value};
-ghost use Rattle.php_first_run.specs.Running.{run};
+ghost use Rattle.php_first_run.specs.Running.{cut_off, run};
 ghost use Rattle.php_first_run.specs.Walking.{IsFront};
 ghost use Rattle.php_run.specs.Words.{Request};
 ghost use Rattle.php_run.specs.Script.{IsScript};
@@ -19,6 +19,16 @@ pub fn longer_allowance_writes_more()
         less ≤ more → IsFront (run less ticks values statements).output (run more ticks values statements).output }
     ensures from_the_beginning { (statements : List Statement) (variables less more : ℕ) →
         less ≤ more → IsFront (run_of less variables statements).output (run_of more variables statements).output }
+{}
+
+/// A run that the allowance doesn't cut off is the same with a longer one: its end, its ticks and its output.
+pub fn longer_allowance_keeps_the_end()
+    ensures from_anywhere { (statements : List Statement) (values : List Value) (ticks less more : ℕ) →
+        less ≤ more → ((run less ticks values statements).ending ≢ cut_off) →
+        run more ticks values statements ≡ run less ticks values statements }
+    ensures from_the_beginning { (statements : List Statement) (variables less more : ℕ) →
+        less ≤ more → ((run_of less variables statements).ending ≢ cut_off) →
+        run_of more variables statements ≡ run_of less variables statements }
 {}
 
 /// A file is cut into tokens in at most one way, and its variables have one list of names.
