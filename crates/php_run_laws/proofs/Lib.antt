@@ -1,0 +1,4 @@
+pub mod Allowances
+pub mod Fronts
+pub mod Cuts
+pub mod Scripts

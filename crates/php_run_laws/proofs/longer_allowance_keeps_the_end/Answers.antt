@@ -1,0 +1,10 @@
+use Rattle.std.specs.Prelude.{replicate}
+use Rattle.php_first_run.specs.declared.value.Value.TheVariants.{Null}
+use Rattle.php_run_laws.proofs.Allowances.{run_same}
+use Rattle.php_run_laws.proofs.longer_allowance_keeps_the_end.Goals as goal
+
+pub returns : goal.returns
+returns c = record {
+  from_anywhere = run_same;
+  from_the_beginning = λ statements variables less more le ends. run_same statements (replicate variables Null) 0 less more le ends;
+}

@@ -1,0 +1,5 @@
+use Rattle.php_run_laws.proofs.Scripts.{one_result}
+use Rattle.php_run_laws.proofs.one_result.Goals as goal
+
+pub returns : goal.returns
+returns c = one_result
