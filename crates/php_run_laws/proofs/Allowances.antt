@@ -3,7 +3,7 @@ use Rattle.std.proofs.Common.{◌≡◌, true, false, ℕ, ◌+◌, ◌≤◌, i
 use Rattle.std.proofs.lemmas.Bool.{cases_Bool, cases_lt, lt-ltb, le-ltb}
 use Rattle.std.proofs.Math.Dec.{ltb}
 use Rattle.std.proofs.lemmas.List.{append-nil, append_assoc}
-use Rattle.php_ast.specs.Expression.{Statement}
+use Rattle.php_first_tree.specs.Expression.{Statement}
 use Rattle.php_first_run.specs.declared.value.Value.{Value}
 use Rattle.php_first_run.specs.Running.{Effect, Outcome, cut_off, followed_by, step, run}
 use Rattle.php_first_run.specs.Walking.{IsFront}

@@ -1,6 +1,6 @@
 -- A file spells at most one script, and at most one answer is owed.
 use Rattle.std.proofs.Common.{◌≡◌, ℕ, List, length, Option, Some, None, sym, ◌∙◌, ap, subst, arith}
-use Rattle.php_ast.specs.Expression.{Statement}
+use Rattle.php_first_tree.specs.Expression.{Statement}
 use Rattle.php_first_tokens.specs.declared.token.Token.{Token}
 use Rattle.php_first_parse.specs.Spelling.{IsSpelling}
 use Rattle.php_first_parse.proofs.Commands.{one_reading}

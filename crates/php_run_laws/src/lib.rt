@@ -3,7 +3,7 @@
 #![tactic(auto)]
 
 ghost use Rattle.std.specs.Prelude.{◌≡◌, ◌≢◌, ℕ, ◌≤◌, List, Option};
-ghost use Rattle.php_ast.specs.Expression.{Statement};
+ghost use Rattle.php_first_tree.specs.Expression.{Statement};
 ghost use Rattle.php_first_tokens.specs.declared.token.Token.{Token};
 ghost use Rattle.php_first_tokens.specs.Cut.{IsCut};
 ghost use Rattle.php_first_run.specs.declared.value.Value.{Value};
