@@ -1,5 +1,5 @@
 -- The laws of the grammar of expressions.
-use Rattle.std.proofs.Common.{◌≡◌, ◌≤◌, inl, ℕ, Bool, true, false, Option, Some, None, List, [], ◌∷◌, ◌++◌, map, length, refl, sym, ◌∙◌, ap, subst, arith, append_assoc, length-append}
+use Rattle.std.proofs.Common.{◌≡◌, ◌≢◌, ◌≤◌, inl, ℕ, Bool, true, false, Option, Some, None, List, [], ◌∷◌, ◌++◌, map, length, refl, sym, ◌∙◌, ap, subst, arith, append_assoc, length-append}
 use Rattle.php_lex.specs.declared.kind.Punct.TheVariants as mark
 use Rattle.php_ast.specs.Symbol.{Symbol, symbol, punct}
 use Rattle.php_lex.specs.Token.{Token}
@@ -64,6 +64,12 @@ ended_read e w h =
 
 pub one_form : (a b : Form) (w : List Symbol) → Spells a w → Spells b w → a ≡ b
 one_form a b w p q = ap (λ o. o.tree) (sym (ended_read a w p) ∙ ended_read b w q)
+
+-- ---- what lacks something spells nothing
+
+pub unfinished : (w v : List Symbol) (e : Form) → Spells e w → EndsBefore e v → (read (w ++ v)).missing ≢ [] → ⊥
+unfinished w v e h ends lacks =
+    lacks (ap (λ u. (read (u ++ v)).missing) (sym h.1) ∙ ap (λ u. (read u).missing) (sym (spell_append e [] v)) ∙ ap (λ o. o.missing) (reads_back e v h.0 ends))
 
 -- ---- the exact place
 

@@ -14,3 +14,4 @@ mod RulesAgree
 mod StatementExamples
 mod TraceSteps
 mod TraceBack
+mod Sizes

@@ -16,6 +16,8 @@ use Rattle.php_ast.specs.Statements.{empty, then_also, Name, Statement, block, e
 use Rattle.php_ast.specs.StatementSpelling.{spell_statement}
 use Rattle.php_ast.specs.ProperStatement.{IsProper}
 use Rattle.php_ast.specs.StatementNesting.{nests_statement}
+use Rattle.php_ast.specs.Placed.{Notes}
+use Rattle.php_ast.specs.StatementPlaced.{noted_statement}
 use Rattle.php_ast.specs.ProperDeclaration.{IsProperRule}
 use Rattle.php_ast.specs.Declarations.{Rule, of_array, of_name, of_class, of_function, renames, uses_by, properties}
 use Rattle.php_ast.specs.DeclarationSpelling.{spell_script}
@@ -199,3 +201,28 @@ nests_switch = refl
 nests_try : nests_statement (try_catch tt no_statement (and_catch no_catch (then_also empty (n 65)) (n 101) no_statement)) 0 []
     ≡ 0 ∷ 0 ∷ 1 ∷ 0 ∷ 0 ∷ 1 ∷ 1 ∷ 1 ∷ 0 ∷ 1 ∷ []
 nests_try = refl
+
+-- ---- notes: with the number of each token as its note
+
+abbrev numbers : Notes ℕ
+numbers = record { token = λ at. at; keyword = λ at. at }
+
+-- `if ($a) $b; else { $c; }` has the tokens `if` 0, `$a` 2, `$b` 4, `{` 7 and `$c` 8
+noted_else : noted_statement numbers 0 (if_else tt (v 97) (line 98) no_elseif (block tt (one (line 99))))
+    ≡ if_else 0 (leaf 2 (variable (97 ∷ []))) (expression 4 (leaf 4 (variable (98 ∷ [])))) no_elseif
+    (block 7 (and_statement no_statement (expression 8 (leaf 8 (variable (99 ∷ []))))))
+noted_else = refl
+
+-- `foreach ($a as $k => &$v): $c; endforeach;`
+noted_foreach :
+    noted_statement numbers 0
+    (foreach tt (v 97) (Some (record { is_reference = false; place = v 107 })) (record { is_reference = true; place = v 118 }) (list_behind_colon (one (line 99))))
+    ≡ foreach 0 (leaf 2 (variable (97 ∷ []))) (Some (record { is_reference = false; place = leaf 4 (variable (107 ∷ [])) }))
+    (record { is_reference = true; place = leaf 7 (variable (118 ∷ [])) }) (list_behind_colon (and_statement no_statement (expression 10 (leaf 10 (variable (99 ∷ []))))))
+noted_foreach = refl
+
+-- `try {} catch (A | B $e) {}`
+noted_try : noted_statement numbers 0 (try_catch tt no_statement (and_catch no_catch (then_also (then_also empty (n 65)) (n 66)) (n 101) no_statement))
+    ≡ try_catch 0 no_statement (and_catch no_catch
+    (then_also (then_also empty (record { note = 5; text = 65 ∷ [] })) (record { note = 7; text = 66 ∷ [] })) (record { note = 8; text = 101 ∷ [] }) no_statement)
+noted_try = refl

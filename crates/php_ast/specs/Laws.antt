@@ -1,16 +1,22 @@
 -- What is proved of the grammar of expressions, for every list of symbols and every tree.
-use Rattle.std.specs.Prelude.{◌≡◌, ℕ, true, false, List, [], ◌∷◌, ◌++◌, map}
+use Rattle.std.specs.Prelude.{◌≡◌, ◌≢◌, ◌+◌, length, ℕ, true, false, List, [], ◌∷◌, ◌++◌, map}
 use Rattle.php_lex.specs.Token.{Token}
 use Rattle.php_ast.specs.Symbol.{Symbol, symbol}
 use Rattle.php_ast.specs.Tree.{Tree}
 use Rattle.php_ast.specs.Spelling.{spell}
 use Rattle.php_ast.specs.Proper.{Proper, takes_arrow, ends_bare}
 use Rattle.php_ast.specs.View.{Note}
-use Rattle.php_ast.specs.Placed.{form_of, IsPlaced}
+use Rattle.php_ast.specs.Placed.{size, form_of, IsPlaced}
 use Rattle.php_ast.specs.Sign.{Continuation, neither, continuation, strength_of, is_arrow, ends_yield}
 use Rattle.php_ast.specs.Nesting.{nests}
 use Rattle.php_ast.specs.Machine.{Form, Reading, expects, read}
 use Rattle.php_ast.specs.Depth.{depths_read}
+
+-- ---- sizes
+
+-- A tree has as many tokens as the places of its notes say.
+abbrev pub SizesAgree : Type 0
+SizesAgree = (e : Form) (w : List Symbol) → length (spell e w) ≡ size e + length w
 
 -- ---- what symbols spell and begin
 
@@ -52,6 +58,13 @@ pub record EndsBefore (e : Form) (v : List Symbol) : Type 0 where
 
 abbrev pub ReadsBack : Type 0
 ReadsBack = (e : Form) (v : List Symbol) → Proper e → EndsBefore e v → read (spell e v) ≡ record { tree = e; missing = []; unread = v }
+
+-- ---- what lacks something spells nothing
+
+-- Where a reading halts in front of these symbols and something is missing, no tree is spelled by what
+-- was read that ends there.
+abbrev pub Unfinished : Type 0
+Unfinished = (w v : List Symbol) (e : Form) → Spells e w → EndsBefore e v → (read (w ++ v)).missing ≢ [] → ⊥
 
 -- ---- one tree
 

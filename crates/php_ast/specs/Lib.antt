@@ -17,6 +17,7 @@ pub mod Statements
 pub mod StatementSpelling
 pub mod ProperStatement
 pub mod StatementNesting
+pub mod StatementPlaced
 pub mod Declarations
 pub mod DeclarationSpelling
 pub mod ProperDeclaration

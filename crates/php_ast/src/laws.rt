@@ -1,7 +1,8 @@
 // Laws of the grammar. Each is the contract of a function that does nothing: it says what holds of the
 // definitions in specs/, for every tree and every list of symbols.
 
-ghost use Rattle.php_ast.specs.Laws.{ReadingBegins, ReadsBack, OneForm, OneTree, NestingAgrees, StopsExactly};
+ghost use Rattle.php_ast.specs.Laws.{ReadingBegins, ReadsBack, OneForm, OneTree};
+ghost use Rattle.php_ast.specs.Laws.{NestingAgrees, SizesAgree, StopsExactly, Unfinished};
 ghost use Rattle.php_ast.specs.Rules.{RulesAgree};
 
 /// What a reading has read begins the spelling of a proper tree.
@@ -32,6 +33,16 @@ pub fn rules_agree()
 /// The nesting that a reading counts is that of the tree.
 pub fn nesting_agrees()
     ensures { NestingAgrees }
+{}
+
+/// A tree has as many tokens as the places of its notes say.
+pub fn sizes_agree()
+    ensures { SizesAgree }
+{}
+
+/// Where a reading halts and something is missing, what was read spells no expression that ends there.
+pub fn unfinished()
+    ensures { Unfinished }
 {}
 
 /// Where a reading stops, the symbols begin no expression with one more.
