@@ -1,14 +1,14 @@
 -- What slots hold, before and after a change of one of them.
-use Rattle.std.proofs.Common.{◌≡◌, ◌<◌, ◌≤◌, ◌⊎◌, inl, inr, ℕ, zero, suc, ◌+◌, List, [], ◌∷◌, ◌++◌, length, take, drop, refl, sym, ◌∙◌, ap, subst, arith, Some, None, append-nil}
-use Rattle.std.specs.Prelude.{Bool, true, false, cond, Option, option_map, is_some, find, IsSome, option_to_list}
-use Rattle.std.proofs.lemmas.Bool.{cases_Bool, false≢true}
+use Rattle.std.proofs.Common.{◌≡◌, ◌<◌, ◌≤◌, inl, inr, ℕ, zero, suc, ◌+◌, List, [], ◌∷◌, ◌++◌, length, take, drop, refl, sym, ◌∙◌, ap, subst, arith, Some, None, append-nil}
+use Rattle.std.specs.Prelude.{Bool, true, false, cond, Option, option_map, is_some, find, option_to_list}
+use Rattle.std.proofs.lemmas.Bool.{cases_Bool}
 use Rattle.php_value.specs.declared.key.Key.{Key}
 use Rattle.php_entries.specs.Keys.{key_eq}
 use Rattle.php_entries.specs.Listing.{Entry}
 use Rattle.php_entries.specs.Changes.{with_value, without_key}
 use Rattle.php_entries.specs.Soundness.{HasNoKey, AreKeysDistinct}
 use Rattle.php_entries.proofs.KeyLemmas.{key_eq-true, key_eq-self, key_eq-sym_false}
-use Rattle.php_array.specs.Slots.{serial_of, stored_in, stored_at, serial_at, entry_of, entries_in, place_of, live_place, vacated, revalued, with_value_at, DoSerialsRise, AreHoles, HoldsSame}
+use Rattle.php_array.specs.Slots.{serial_of, stored_in, stored_at, serial_at, entry_of, entries_in, place_of, vacated, revalued, with_value_at, DoSerialsRise, AreHoles, HoldsSame}
 use Rattle.php_array.specs.declared.slot.Slot.{Slot}
 use Rattle.php_array.specs.declared.slot.Slot.TheVariants.{Hole, Live}
 use Rattle.php_array.specs.declared.slot.Stored.{Stored}

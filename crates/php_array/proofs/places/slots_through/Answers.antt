@@ -1,5 +1,4 @@
-use Rattle.std.proofs.Common.{rules, ◌≡◌, ◌<◌, ◌≤◌, ◌+◌, ◌-◌, ◌/◌, ◌⊎◌, inl, inr, ℕ, length, sym, ◌∙◌, ap, subst, arith}
-use Rattle.php_array.specs.Slots.{serial_at}
+use Rattle.std.proofs.Common.{◌<◌, ◌+◌, ◌-◌, ◌/◌, length, arith}
 use Rattle.php_array.proofs.SlotLemmas.{serials_through, serials_behind}
 use Rattle.php_array.proofs.places.slots_through.Goals as goal
 
