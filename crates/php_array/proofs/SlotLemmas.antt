@@ -476,3 +476,10 @@ module _ {T : Type 0} where
       ap (place_of q) split.0
       ∙ place_of-push q (take i ss) e before
       ∙ ap (λ n. cond (key_eq e.key q) (Some n) (place_of q (take i ss))) split.1
+
+  -- the serials behind a place are greater than the one there
+  pub serial_at-above : (from : ℕ) (ss : List (Slot T)) (to i j : ℕ) → DoSerialsRise from ss to → i < j → j < length ss → serial_at i ss < serial_at j ss
+  serial_at-above from [] to i j h lt within = absurd (omega arith)
+  serial_at-above from (s ∷ ss) to i zero h lt within = absurd (omega arith)
+  serial_at-above from (s ∷ ss) to zero (suc j) h lt within = above (serial_of s) ss to j h.2 (omega arith)
+  serial_at-above from (s ∷ ss) to (suc i) (suc j) h lt within = serial_at-above (serial_of s) ss to i j h.2 (omega arith) (omega arith)

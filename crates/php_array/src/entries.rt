@@ -2,6 +2,7 @@
 ghost use Rattle.std.specs.Prelude.{◌≡◌, ◌+◌, ◌-◌, ◌^◌, ◌<◌, ◌≤◌, ◌↔◌, min, IsTrue, IsOk, IfOk, IfErr, OnOk, OnErr, is_some, if◌then◌else◌, false, None, Some, Err, pos, option_copied, option_map, vec_len};
 ghost use Rattle.php_entries.specs.Listing.{Listing, no_entries, count_of, entry_at, value_at, has_key, entry_after, last_of, is_at_limit};
 ghost use Rattle.php_entries.specs.Changes.{Grown, Full, Limit, with_entry, set_value, append_value, remove_key, pop_entry, with_values};
+ghost use Rattle.php_entries.specs.Soundness.{IsSound};
 ghost use Rattle.php_array.specs.Answers.{unset_value, unappended_value, shown_entry, key_and_value, with_serial};
 
 use crate::indexing::{find_live, find_stored, index_entry};
@@ -66,9 +67,17 @@ impl<T: Drop> Entries<T> {
 
     /// The number of entries.
     pub fn len(&self) -> usize
-        ensures { result ≡ count_of self.now }
+        ensures count { result ≡ count_of self.now }
+        ensures sound { IsSound self.now }
     {
         self.count
+    }
+
+    /// Whether there are no entries.
+    pub fn is_empty(&self) -> bool
+        ensures { IsTrue result ↔ (count_of self.now ≡ 0) }
+    {
+        self.count == 0
     }
 
     /// The value under a key.

@@ -26,13 +26,8 @@ pub fn key_above(key: &Key, next: u64) -> u64
     ensures key_fits { IsKeyBelow KEY_LIMIT key.now }
 {
     match key {
-        Key::Int(k) => {
-            if *k >= 0 {
-                next.max(*k as u64 + 1)
-            } else {
-                next
-            }
-        }
+        Key::Int(k) if *k >= 0 => next.max(*k as u64 + 1),
+        Key::Int(_) => next,
         Key::Str(_) => next,
     }
 }
