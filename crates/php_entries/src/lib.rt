@@ -1,0 +1,3 @@
+// The definition of an ordered array: the list of its entries, its next key and its next birth
+// serial, and what each change makes of it. It is generic in the value of an entry.
+#![tactic(auto)]
