@@ -1,0 +1,16 @@
+pub mod Numbered
+pub mod Contents
+pub mod Holders
+pub mod Copies
+pub mod Places
+pub mod Temporaries
+pub mod Writes
+pub mod Releases
+pub mod Objects
+pub mod Views
+pub mod Examples
+pub mod Sound
+pub mod Alike
+pub mod Rest
+pub mod Conditions
+pub mod Meanings
