@@ -1,4 +1,14 @@
+pub mod Comparison
+pub mod ComparisonExamples
+pub mod Conversion
+pub mod ConversionExamples
 pub mod Decimal
 pub mod DecimalExamples
+pub mod ErrorKind
+pub mod Form
+pub mod FormExamples
 pub mod Key
 pub mod KeyExamples
+pub mod Operator
+pub mod OperatorExamples
+pub mod Reading

@@ -2,23 +2,27 @@
 // (conversions, comparison, operators, coercion to a declared type).
 #![tactic(auto)]
 
+mod comparison;
+mod conversion;
 mod decimal;
 mod error_kind;
 mod fault;
 mod form;
 mod key;
 mod op;
-mod order;
+mod ordering;
 mod scalar;
 mod scalar_type;
 mod text;
 
+pub use comparison::{loose, order, strict};
+pub use conversion::{to_bool, to_int, to_text};
 pub use error_kind::ErrorKind;
 pub use fault::{Fault, Stopped};
-pub use form::Form;
+pub use form::{Form, numeric_form};
 pub use key::{Key, key_of};
 pub use op::Op;
-pub use order::Order;
+pub use ordering::Order;
 pub use scalar::Scalar;
 pub use scalar_type::ScalarType;
 pub use text::Text;

@@ -1,4 +1,4 @@
-// How two values compare.
+// The outcomes of a comparison.
 
 /// The outcome of a comparison.
 #[derive(Clone, Copy, Debug, Eq, PartialEq)]
