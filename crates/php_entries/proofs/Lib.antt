@@ -1,1 +1,5 @@
 pub mod Examples
+pub mod KeyLemmas
+pub mod ListLemmas
+pub mod MapLemmas
+pub mod SoundLemmas

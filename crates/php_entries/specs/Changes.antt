@@ -79,3 +79,19 @@ module _ {T U : Type 0} where
   -- the array with these values: serials, keys, next key and next serial stay
   unfoldable pub with_values : Listing T → List U → Listing U
   with_values l vs = record { entries = entries_with l.entries vs; next_key = l.next_key; next_serial = l.next_serial }
+
+  abbrev pub map_entry : (T → U) → Entry T → Entry U
+  map_entry f e = record { serial = e.serial; key = e.key; value = f e.value }
+
+  -- the entries with each value mapped
+  abbrev pub map_entries : (T → U) → List (Entry T) → List (Entry U)
+  map_entries f [] = []
+  map_entries f (e ∷ es) = map_entry f e ∷ map_entries f es
+
+  abbrev pub map_listing : (T → U) → Listing T → Listing U
+  map_listing f l = record { entries = map_entries f l.entries; next_key = l.next_key; next_serial = l.next_serial }
+
+  abbrev pub map_growth : (T → U) → Growth T → Growth U
+  map_growth f (Grown l) = Grown (map_listing f l)
+  map_growth f Full = Full
+  map_growth f Limit = Limit

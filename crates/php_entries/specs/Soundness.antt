@@ -4,6 +4,7 @@ use Rattle.php_value.specs.declared.key.Key.{Key}
 use Rattle.php_value.specs.declared.key.Key.TheVariants.{Int, Str}
 use Rattle.php_entries.specs.Keys.{key_eq}
 use Rattle.php_entries.specs.Listing.{Entry, Listing, count_of, ENTRY_LIMIT, SERIAL_LIMIT, KEY_LIMIT}
+use Rattle.php_entries.specs.Changes.{Growth, Grown, Full, Limit}
 
 -- the next key is above this key, where it is an int
 abbrev pub IsKeyBelow : ℕ → Key → Type 0
@@ -39,3 +40,9 @@ module _ {T : Type 0} where
     pub next_key_within : l.next_key ≤ KEY_LIMIT
     pub next_serial_within : l.next_serial ≤ SERIAL_LIMIT
     pub count_within : count_of l ≤ ENTRY_LIMIT
+
+  -- the array after a change is sound, where the change is not refused
+  abbrev pub KeepsSound : Growth T → Type 0
+  KeepsSound (Grown l) = IsSound l
+  KeepsSound Full = Unit {0}
+  KeepsSound Limit = Unit {0}
