@@ -4,14 +4,15 @@ use Rattle.php_entries.specs.Changes.{set_value, append_value, remove_key, pop_e
 use Rattle.php_memdef.specs.Holders.{holders, object_holders}
 use Rattle.php_memdef.specs.Copies.{copied}
 use Rattle.php_memdef.specs.Places.{find_place, walk}
+use Rattle.php_memdef.specs.Reading.{reading}
 use Rattle.php_memdef.specs.Temporaries.{enter, push, push_array, push_object, drop_top, copy, settle}
 use Rattle.php_memdef.specs.Writes.{assign, make_link, bind, unset, unset_last}
 use Rattle.php_memdef.specs.Releases.{fall}
 use Rattle.php_memdef.specs.Objects.{make_object, clone_object, attach}
-use Rattle.php_memdef.specs.Examples.{AliasExamples, WriteExamples, ReleaseExamples}
+use Rattle.php_memdef.specs.Examples.{AliasExamples, WriteExamples, ReleaseExamples, ReadExamples}
 
 pub alias_examples : AliasExamples
-unfolding set_value append_value remove_key pop_entry holders object_holders copied find_place walk enter push push_array push_object drop_top copy settle assign make_link bind unset unset_last fall make_object clone_object attach
+unfolding set_value append_value remove_key pop_entry holders object_holders copied find_place walk reading enter push push_array push_object drop_top copy settle assign make_link bind unset unset_last fall make_object clone_object attach
 alias_examples = record {
   alias_kept_by_copy = refl;
   alias_gone_before_copy = refl;
@@ -24,12 +25,13 @@ alias_examples = record {
   link_is_no_alias = refl;
   settled_copy_is_alias = refl;
   no_alias_once_dropped = refl;
+  missing_made_by_link = refl;
   alias_kept_by_clone = refl;
   array_copied_by_clone = refl;
 }
 
 pub write_examples : WriteExamples
-unfolding set_value append_value remove_key pop_entry holders object_holders copied find_place walk enter push push_array push_object drop_top copy settle assign make_link bind unset unset_last fall make_object clone_object attach
+unfolding set_value append_value remove_key pop_entry holders object_holders copied find_place walk reading enter push push_array push_object drop_top copy settle assign make_link bind unset unset_last fall make_object clone_object attach
 write_examples = record {
   keys_and_serials = refl;
   next_key_stays = refl;
@@ -49,7 +51,7 @@ write_examples = record {
 }
 
 pub release_examples : ReleaseExamples
-unfolding set_value append_value remove_key pop_entry holders object_holders copied find_place walk enter push push_array push_object drop_top copy settle assign make_link bind unset unset_last fall make_object clone_object attach
+unfolding set_value append_value remove_key pop_entry holders object_holders copied find_place walk reading enter push push_array push_object drop_top copy settle assign make_link bind unset unset_last fall make_object clone_object attach
 release_examples = record {
   elements_in_order = refl;
   second_in_order = refl;
@@ -65,4 +67,28 @@ release_examples = record {
   frame_first = refl;
   then_the_object = refl;
   object_gone = refl;
+}
+
+pub read_examples : ReadExamples
+unfolding set_value append_value remove_key pop_entry holders object_holders copied find_place walk reading enter push push_array push_object drop_top copy settle assign make_link bind unset unset_last fall make_object clone_object attach
+read_examples = record {
+  first_byte = refl;
+  last_byte = refl;
+  byte_at_length = refl;
+  byte_before_start = refl;
+  byte_at_text = refl;
+  byte_at_word = refl;
+  byte_of_byte = refl;
+  quiet_at_length = refl;
+  quiet_at_word = refl;
+  quiet_into_object = refl;
+  into_object = refl;
+  missing_is_null = refl;
+  element_of_int = refl;
+  append_read = refl;
+  append_of_object = refl;
+  byte_is_set = refl;
+  beyond_is_not_set = refl;
+  word_is_not_set = refl;
+  null_is_not_set = refl;
 }

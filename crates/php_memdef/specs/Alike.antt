@@ -1,6 +1,6 @@
 -- Memories that differ in the numbers of their stores alone.
 use Rattle.std.specs.Prelude.{◌≡◌, ℕ, List, [], ◌∷◌, Option, Some, None}
-use Rattle.php_entries.specs.Listing.{Entry, Listing}
+use Rattle.php_entries.specs.Changes.{map_listing}
 use Rattle.php_memdef.specs.Numbered.{numbered}
 use Rattle.php_memdef.specs.Contents.{Content, null, truth, int, text, array, object, Item, value, link, Variable, Scope, Property, Object, Mem}
 
@@ -11,19 +11,12 @@ map_if f (Some x) = Some (f x)
 module _ (to : ℕ → ℕ) where
   -- the same with other numbers for the stores
 
-  abbrev pub renamed_entries : List (Entry ℕ) → List (Entry ℕ)
-  renamed_entries [] = []
-  renamed_entries (e ∷ es) = record e { value = to e.value } ∷ renamed_entries es
-
-  abbrev pub renamed_listing : Listing ℕ → Listing ℕ
-  renamed_listing t = record t { entries = renamed_entries t.entries }
-
   abbrev pub renamed_content : Content → Content
   renamed_content null = null
   renamed_content (truth b) = truth b
   renamed_content (int i) = int i
   renamed_content (text bytes) = text bytes
-  renamed_content (array t) = array (renamed_listing t)
+  renamed_content (array t) = array (map_listing to t)
   renamed_content (object h) = object h
 
   abbrev pub renamed_item : Item → Item

@@ -15,12 +15,13 @@ use Rattle.php_memdef.specs.declared.answer.Wrote.TheVariants.{Done, NotArray, F
 use Rattle.php_memdef.specs.declared.answer.Fallen.{Fallen}
 use Rattle.php_memdef.specs.declared.answer.Fallen.TheVariants.{Nothing, Destroy, Frame}
 use Rattle.php_memdef.specs.Numbered.{numbered, live_count}
-use Rattle.php_memdef.specs.Contents.{Content, int, array, Item, value, Mem, fresh}
+use Rattle.php_memdef.specs.Contents.{Content, null, int, text, array, Item, value, Mem, fresh}
 use Rattle.php_memdef.specs.Temporaries.{top, enter, push, push_array, push_object, drop_top, copy, settle}
 use Rattle.php_memdef.specs.Writes.{assign, make_link, bind, unset, unset_last}
 use Rattle.php_memdef.specs.Releases.{fall}
 use Rattle.php_memdef.specs.Objects.{make_object, clone_object, attach, eldest}
 use Rattle.php_memdef.specs.Views.{found, is_aliased}
+use Rattle.php_memdef.specs.Reading.{gives, throws, loud, quiet, reading, is_set, bad_offset, not_an_array}
 
 -- the words of the examples
 
@@ -231,6 +232,13 @@ settled_copy =
 abbrev pub settled_copy_dropped : Mem
 settled_copy_dropped = released (drop_top (unsets settled_copy (variable $a (at 0 ∷ []))) 0)
 
+-- $a = "abc";
+abbrev pub with_text : Mem
+with_text = sets start (variable $a []) (scalar.Str (97 ∷ 98 ∷ 99 ∷ []))
+
+abbrev pub in_text : Key → Place
+in_text k = variable $a (At k ∷ [])
+
 -- what the examples come to
 
 pub record AliasExamples : Type 0 where
@@ -249,6 +257,8 @@ pub record AliasExamples : Type 0 where
   pub link_is_no_alias : is_aliased cut_off (temporary 0 []) ≡ false
   pub settled_copy_is_alias : is_aliased settled_copy (variable $b []) ≡ true
   pub no_alias_once_dropped : is_aliased settled_copy_dropped (variable $b []) ≡ false
+  -- what is linked is made with null where it is missing
+  pub missing_made_by_link : shown (make_link start 0 (variable $a (at 0 ∷ []))).0 (variable $a (at 0 ∷ [])) ≡ value null
   -- a clone keeps the aliases among its properties, and copies the rest
   pub alias_kept_by_clone : shown clone_with_alias (property 1 112 []) ≡ value (int (pos 2))
   pub array_copied_by_clone : shown clone_of_array (property 1 112 (at 0 ∷ [])) ≡ value (int (pos 1))
@@ -295,3 +305,28 @@ pub record ReleaseExamples : Type 0 where
   pub frame_first : (fall generator_dropped 0).1 ≡ Frame (record { 0 = 1 })
   pub then_the_object : (fall (fall generator_dropped 0).0 0).1 ≡ Nothing
   pub object_gone : live_count (fall (fall generator_dropped 0).0 0).0.objects ≡ 0
+
+pub record ReadExamples : Type 0 where
+  -- a byte of a string: an offset from the start or the end, as an int or as a text that is one
+  pub first_byte : reading loud with_text (in_text (key.Int (pos 0))) ≡ gives (text (97 ∷ []))
+  pub last_byte : reading loud with_text (in_text (key.Int (negsuc 0))) ≡ gives (text (99 ∷ []))
+  pub byte_at_length : reading loud with_text (in_text (key.Int (pos 3))) ≡ gives (text [])
+  pub byte_before_start : reading loud with_text (in_text (key.Int (negsuc 3))) ≡ gives (text [])
+  pub byte_at_text : reading loud with_text (in_text (key.Str (32 ∷ 49 ∷ []))) ≡ gives (text (98 ∷ []))
+  pub byte_at_word : reading loud with_text (in_text (key.Str (120 ∷ []))) ≡ throws bad_offset
+  pub byte_of_byte : reading loud with_text (variable $a (at 1 ∷ at 0 ∷ at 0 ∷ [])) ≡ gives (text (98 ∷ []))
+  -- read quietly, what is out of range, a bad offset and an element of an object are null
+  pub quiet_at_length : reading quiet with_text (in_text (key.Int (pos 3))) ≡ gives null
+  pub quiet_at_word : reading quiet with_text (in_text (key.Str (120 ∷ []))) ≡ gives null
+  pub quiet_into_object : reading quiet with_object_in_variable (variable $a (at 0 ∷ [])) ≡ gives null
+  pub into_object : reading loud with_object_in_variable (variable $a (at 0 ∷ [])) ≡ throws not_an_array
+  -- what is missing is null for what follows
+  pub missing_is_null : reading loud start (variable $a (at 0 ∷ at 1 ∷ [])) ≡ gives null
+  pub element_of_int : reading loud (sets_int start (variable $a []) 1) (variable $a (at 0 ∷ [])) ≡ gives null
+  -- an append can't be read
+  pub append_read : reading loud start (variable $a (Push ∷ [])) ≡ throws bad_offset
+  pub append_of_object : reading loud with_object_in_variable (variable $a (Push ∷ [])) ≡ throws bad_offset
+  pub byte_is_set : is_set with_text (in_text (key.Int (pos 1))) ≡ true
+  pub beyond_is_not_set : is_set with_text (in_text (key.Int (pos 9))) ≡ false
+  pub word_is_not_set : is_set with_text (in_text (key.Str (120 ∷ []))) ≡ false
+  pub null_is_not_set : is_set (sets start (variable $a []) scalar.Null) (variable $a []) ≡ false

@@ -8,6 +8,7 @@ pub mod Writes
 pub mod Releases
 pub mod Objects
 pub mod Views
+pub mod Reading
 pub mod Examples
 pub mod Sound
 pub mod Alike

@@ -1,9 +1,10 @@
 // What holds of the model alone. Each function says it in its contract, and its body is empty.
-ghost use Rattle.php_memdef.specs.Examples.{AliasExamples, ReleaseExamples, WriteExamples};
+ghost use Rattle.php_memdef.specs.Examples.{AliasExamples, ReadExamples, ReleaseExamples, WriteExamples};
 
 /// Small programs come to what they should.
 pub fn worked_examples()
     ensures aliases { AliasExamples }
     ensures writes { WriteExamples }
+    ensures reads { ReadExamples }
     ensures releases { ReleaseExamples }
 {}

@@ -1,4 +1,4 @@
-use Rattle.php_memdef.proofs.Examples.{alias_examples, write_examples, release_examples}
+use Rattle.php_memdef.proofs.Examples.{alias_examples, write_examples, read_examples, release_examples}
 use Rattle.php_memdef.proofs.laws.worked_examples.Goals as goal
 
 pub returns-clause-aliases : goal.returns-clause-aliases
@@ -9,3 +9,6 @@ returns-clause-writes c = write_examples
 
 pub returns-clause-releases : goal.returns-clause-releases
 returns-clause-releases c = release_examples
+
+pub returns-clause-reads : goal.returns-clause-reads
+returns-clause-reads c = read_examples
