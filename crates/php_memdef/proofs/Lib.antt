@@ -1,1 +1,6 @@
 pub mod Examples
+pub mod NumberedLemmas
+pub mod RenamingLemmas
+pub mod AlikeLemmas
+pub mod ScopeLemmas
+pub mod PlaceLemmas

@@ -7,7 +7,7 @@ use Rattle.php_entries.specs.Soundness.{IsSound as IsSoundListing}
 use Rattle.php_memdef.specs.declared.place.PropName.{PropName}
 use Rattle.php_memdef.specs.Numbered.{numbered}
 use Rattle.php_memdef.specs.Contents.{Content, null, truth, int, text, array, object, Item, value, link, Variable, Scope, Property, Object, Mem, object_of}
-use Rattle.php_memdef.specs.Holders.{holders, object_holders}
+use Rattle.php_memdef.specs.Holders.{stores_of_content, stores_of_object, stores_of_scope, holders, object_holders}
 use Rattle.php_memdef.specs.Places.{prop_name_eq}
 use Rattle.php_memdef.specs.Objects.{OBJECT_LIMIT}
 
@@ -69,9 +69,23 @@ pub record IsSoundObject (o : Object) : Type 0 where
   pub properties_distinct : ArePropertiesDistinct o.properties
   pub names_short : AreNamesShort o.properties
 
+abbrev pub Every : (ℕ → Type 0) → List ℕ → Type 0
+Every P [] = Unit {0}
+Every P (s ∷ ss) = P s × Every P ss
+
+abbrev pub IsLive : Mem → ℕ → Type 0
+IsLive m s = IsSome (numbered m.stores s)
+
+-- every store that is named is there
+pub record IsClosed (m : Mem) : Type 0 where
+  pub stores : (s : ℕ) (c : Content) → numbered m.stores s ≡ Some c → Every (IsLive m) (stores_of_content c)
+  pub objects : (h : ℕ) (o : Object) → numbered m.objects h ≡ Some o → Every (IsLive m) (stores_of_object o)
+  pub blocks : (b : ℕ) (f : Scope) → numbered m.blocks b ≡ Some f → Every (IsLive m) (stores_of_scope f)
+  pub statics : (i s : ℕ) → numbered m.statics i ≡ Some s → IsLive m s
+
 pub record IsSound (m : Mem) : Type 0 where
-  -- what is named is there, and what is there is named
-  pub stores_live : (s : ℕ) → 0 < holders m s → IsSome (numbered m.stores s)
+  pub closed : IsClosed m
+  -- what is there has a holder, and objects that have one are there
   pub stores_held : (s : ℕ) → IsSome (numbered m.stores s) → 0 < holders m s
   pub objects_live : (h : ℕ) → 0 < object_holders m h → IsSome (numbered m.objects h)
   pub objects_held : (h : ℕ) → IsSome (numbered m.objects h) → 0 < object_holders m h
