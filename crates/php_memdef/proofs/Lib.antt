@@ -4,3 +4,7 @@ pub mod RenamingLemmas
 pub mod AlikeLemmas
 pub mod ScopeLemmas
 pub mod PlaceLemmas
+pub mod ClosedLemmas
+pub mod NewStoreLemmas
+pub mod WalkLemmas
+pub mod TotalLemmas

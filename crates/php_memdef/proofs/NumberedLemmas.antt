@@ -1,6 +1,7 @@
 -- Finite maps from numbers, after a change.
-use Rattle.std.proofs.Common.{◌≡◌, ◌≢◌, ℕ, zero, suc, ◌+◌, [], ◌∷◌, length, refl, ap, arith}
-use Rattle.std.specs.Prelude.{Option, Some, None}
+use Rattle.std.proofs.Common.{◌≡◌, ◌≢◌, ℕ, zero, suc, ◌+◌, [], ◌∷◌, length, refl, sym, ◌∙◌, ap, arith, inl, inr}
+use Rattle.std.specs.Prelude.{Option, Some, None, IsSome, is_some}
+use Rattle.std.proofs.lemmas.Bool.Decides.{eqb_tells}
 use Rattle.php_memdef.specs.Numbered.{Numbered, numbered, with_numbered, with_next, weight_if, total}
 
 module _ {X : Type 0} where
@@ -35,3 +36,17 @@ module _ {X : Type 0} where
   total-with weight [] (suc n) y = omega (arith, total-with weight [] n y)
   total-with weight (x ∷ xs) zero y = omega arith
   total-with weight (x ∷ xs) (suc n) y = omega (arith, total-with weight xs n y)
+
+  -- what holds of all that was there, and of what a change puts there, holds of all afterwards
+  pub all-with : (P : X → Type 0) (xs : Numbered X) (k : ℕ) (o : Option X) → ((x : X) → o ≡ Some x → P x) → ((n : ℕ) (x : X) → numbered xs n ≡ Some x → P x) → (n : ℕ) (x : X) → numbered (with_numbered xs k o) n ≡ Some x → P x
+  all-with P xs k o new old n x h = elim (eqb_tells n k) [
+    | inl e ↦ new x (sym (ap (numbered (with_numbered xs k o)) e.1 ∙ numbered-with_same xs k o) ∙ h)
+    | inr e ↦ old n x (sym (numbered-with_other xs k n o e.1) ∙ h)
+  ]
+
+  -- what is there stays there where something is put
+  pub live-with : (xs : Numbered X) (k : ℕ) (x : X) (n : ℕ) → IsSome (numbered xs n) → IsSome (numbered (with_numbered xs k (Some x)) n)
+  live-with xs k x n h = elim (eqb_tells n k) [
+    | inl e ↦ ap is_some (ap (numbered (with_numbered xs k (Some x))) e.1 ∙ numbered-with_same xs k (Some x))
+    | inr e ↦ ap is_some (numbered-with_other xs k n (Some x) e.1) ∙ h
+  ]
