@@ -8,3 +8,6 @@ pub mod ClosedLemmas
 pub mod NewStoreLemmas
 pub mod WalkLemmas
 pub mod TotalLemmas
+pub mod CopyLemmas
+pub mod ReleaseLemmas
+pub mod TemporaryLemmas

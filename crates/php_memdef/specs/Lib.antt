@@ -12,6 +12,7 @@ pub mod Reading
 pub mod Examples
 pub mod Sound
 pub mod Alike
+pub mod Laws
 pub mod Rest
 pub mod Conditions
 pub mod Meanings

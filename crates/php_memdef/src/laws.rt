@@ -1,4 +1,14 @@
 // What holds of the model alone. Each function says it in its contract, and its body is empty.
+ghost use Rattle.std.specs.Prelude.{ℕ, Bool, Option};
+ghost use Rattle.php_value.specs.declared.scalar.Scalar.{Scalar};
+ghost use Rattle.php_memdef.specs.declared.place.Place.{Place};
+ghost use Rattle.php_memdef.specs.Contents.{Mem};
+ghost use Rattle.php_memdef.specs.Alike.{Alike};
+ghost use Rattle.php_memdef.specs.Laws.{AnswersAlike, RespectsAlike};
+ghost use Rattle.php_memdef.specs.Temporaries as temporaries;
+ghost use Rattle.php_memdef.specs.Writes as writes;
+ghost use Rattle.php_memdef.specs.Releases as releases;
+ghost use Rattle.php_memdef.specs.Objects as objects;
 ghost use Rattle.php_memdef.specs.Examples.{AliasExamples, ReadExamples, ReleaseExamples, WriteExamples};
 
 /// Small programs come to what they should.
@@ -7,4 +17,47 @@ pub fn worked_examples()
     ensures writes { WriteExamples }
     ensures reads { ReadExamples }
     ensures releases { ReleaseExamples }
+{}
+
+/// To be alike is an equivalence.
+pub fn alike_is_an_equivalence()
+    ensures reflexive { (m : Mem) → Alike m m }
+    ensures symmetric { (m n : Mem) → Alike m n → Alike n m }
+    ensures transitive { (l m n : Mem) → Alike l m → Alike m n → Alike l n }
+{}
+
+/// Each operation on blocks and temporaries takes alike memories to alike memories.
+pub fn temporaries_respect_alike()
+    ensures enter { (b room : ℕ) → RespectsAlike (λ m. temporaries.enter m b room) }
+    ensures leave { (b : ℕ) → RespectsAlike (λ m. temporaries.leave m b) }
+    ensures push { (b : ℕ) (v : Scalar) → RespectsAlike (λ m. temporaries.push m b v) }
+    ensures push_array { (b : ℕ) → RespectsAlike (λ m. temporaries.push_array m b) }
+    ensures push_object { (b h : ℕ) → RespectsAlike (λ m. temporaries.push_object m b h) }
+    ensures pass { (b c : ℕ) → RespectsAlike (λ m. temporaries.pass m b c) }
+    ensures drop_top { (b : ℕ) → RespectsAlike (λ m. temporaries.drop_top m b) }
+    ensures copy { (b : ℕ) (p : Place) → AnswersAlike (λ m. temporaries.copy m b p) }
+    ensures settle { (b : ℕ) → RespectsAlike (λ m. temporaries.settle m b) }
+{}
+
+/// Each operation that writes, binds or removes a place takes alike memories to alike memories, with
+/// one answer.
+pub fn writes_respect_alike()
+    ensures assign { (b : ℕ) (p : Place) → AnswersAlike (λ m. writes.assign m b p) }
+    ensures link { (b : ℕ) (p : Place) → AnswersAlike (λ m. writes.make_link m b p) }
+    ensures bind { (b : ℕ) (p : Place) → AnswersAlike (λ m. writes.bind m b p) }
+    ensures unset { (b : ℕ) (p : Place) → RespectsAlike (λ m. writes.unset m b p) }
+    ensures unset_last { (b : ℕ) (p : Place) → RespectsAlike (λ m. writes.unset_last m b p) }
+    ensures forget { (b n : ℕ) → RespectsAlike (λ m. writes.forget m b n) }
+    ensures shed { (b : ℕ) → AnswersAlike (λ m. writes.shed m b) }
+{}
+
+/// A release, and each operation on objects, takes alike memories to alike memories, with one answer.
+pub fn releases_respect_alike()
+    ensures fall { (b : ℕ) → AnswersAlike (λ m. releases.fall m b) }
+    ensures object { (b class : ℕ) (finishing : Bool) →
+        AnswersAlike (λ m. objects.make_object m b class finishing) }
+    ensures clone_object { (b : ℕ) → AnswersAlike (λ m. objects.clone_object m b) }
+    ensures finish { (h : ℕ) → RespectsAlike (λ m. objects.finish m h) }
+    ensures spare { (h : ℕ) → RespectsAlike (λ m. objects.spare m h) }
+    ensures attach { (h : ℕ) (frame : Option ℕ) → RespectsAlike (λ m. objects.attach m h frame) }
 {}
