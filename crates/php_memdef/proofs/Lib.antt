@@ -11,3 +11,4 @@ pub mod TotalLemmas
 pub mod CopyLemmas
 pub mod ReleaseLemmas
 pub mod TemporaryLemmas
+pub mod ViewLemmas

@@ -57,7 +57,7 @@ weight_renamed f g k h None = refl
 weight_renamed f g k h (Some x) = h x
 
 -- under the same numbers
-total_same : {X Y : Type 0} (f : X → ℕ) (g : Y → ℕ) (k : X → Y) → ((x : X) → g (k x) ≡ f x) → (xs : Numbered X) (ys : Numbered Y) → ((n : ℕ) → numbered ys n ≡ map_if k (numbered xs n)) → total g ys ≡ total f xs
+pub total_same : {X Y : Type 0} (f : X → ℕ) (g : Y → ℕ) (k : X → Y) → ((x : X) → g (k x) ≡ f x) → (xs : Numbered X) (ys : Numbered Y) → ((n : ℕ) → numbered ys n ≡ map_if k (numbered xs n)) → total g ys ≡ total f xs
 total_same f g k h xs ys e = total_moved f g xs ys (λ s. s) (λ s. ap (weight_if g) (e s) ∙ weight_renamed f g k h (numbered xs s)) (λ s t p. p) (λ t. inr (t, refl))
 
 -- the stores that are named, renamed
@@ -144,7 +144,7 @@ values_kept to (value c ∷ is) = ap (λ n. 1 + n) (values_kept to is)
 values_kept to (link s ∷ is) = values_kept to is
 
 module _ (to back : ℕ → ℕ) (m n : Mem) (r : IsRenamed to back m n) where
-  stores_total : (f g : Content → ℕ) → ((c : Content) → g (renamed_content to c) ≡ f c) → total g n.stores ≡ total f m.stores
+  pub stores_total : (f g : Content → ℕ) → ((c : Content) → g (renamed_content to c) ≡ f c) → total g n.stores ≡ total f m.stores
   stores_total f g h =
       total_moved f g m.stores n.stores to
       (λ s. ap (weight_if g) (r.stores s) ∙ weight_renamed f g (renamed_content to) h (numbered m.stores s))

@@ -2,9 +2,13 @@
 ghost use Rattle.std.specs.Prelude.{ℕ, Bool, Option};
 ghost use Rattle.php_value.specs.declared.scalar.Scalar.{Scalar};
 ghost use Rattle.php_memdef.specs.declared.place.Place.{Place};
+ghost use Rattle.php_memdef.specs.declared.answer.Peek.{Peek};
 ghost use Rattle.php_memdef.specs.Contents.{Mem};
 ghost use Rattle.php_memdef.specs.Alike.{Alike};
-ghost use Rattle.php_memdef.specs.Laws.{AnswersAlike, RespectsAlike};
+ghost use Rattle.php_memdef.specs.Holders.{vslots};
+ghost use Rattle.php_memdef.specs.Views.{Shows, found, later_entry, is_aliased, temps_count, cost_of};
+ghost use Rattle.php_memdef.specs.Conditions.{IsBlock, IsPlace, CanLeave, CanPush, CanPushArray, CanPushObject, CanCopy, CanAssign, CanLink, CanBind, CanSettle, CanPass, CanUnset, CanUnsetLast, CanForget, CanDropTop, CanMakeObject, CanClone, CanAttach};
+ghost use Rattle.php_memdef.specs.Laws.{AnswersAlike, HoldsAlike, RespectsAlike, ShowsAlike};
 ghost use Rattle.php_memdef.specs.Temporaries as temporaries;
 ghost use Rattle.php_memdef.specs.Writes as writes;
 ghost use Rattle.php_memdef.specs.Releases as releases;
@@ -60,4 +64,40 @@ pub fn releases_respect_alike()
     ensures finish { (h : ℕ) → RespectsAlike (λ m. objects.finish m h) }
     ensures spare { (h : ℕ) → RespectsAlike (λ m. objects.spare m h) }
     ensures attach { (h : ℕ) (frame : Option ℕ) → RespectsAlike (λ m. objects.attach m h frame) }
+{}
+
+/// What is shown of alike memories is the same.
+pub fn views_respect_alike()
+    ensures peek { (look : Peek) (p : Place) → HoldsAlike (λ m. Shows look (found m p)) }
+    ensures entry_after { (p : Place) (serial : ℕ) → ShowsAlike (λ m. later_entry m p serial) }
+    ensures aliased { (p : Place) → ShowsAlike (λ m. is_aliased m p) }
+    ensures temps { (b : ℕ) → ShowsAlike (λ m. temps_count m b) }
+    ensures slots { ShowsAlike vslots }
+    ensures cost { (p : Place) → ShowsAlike (λ m. cost_of m p) }
+    ensures class_of { (h : ℕ) → ShowsAlike (λ m. objects.class_of m h) }
+    ensures prop_at { (h n : ℕ) → ShowsAlike (λ m. objects.property_name m h n) }
+    ensures eldest { ShowsAlike objects.eldest }
+{}
+
+/// What may be called on a memory may be called on all that are alike.
+pub fn conditions_respect_alike()
+    ensures block { (b : ℕ) → HoldsAlike (λ m. IsBlock m b) }
+    ensures place { (p : Place) → HoldsAlike (λ m. IsPlace m p) }
+    ensures leave { (b : ℕ) → HoldsAlike (CanLeave b) }
+    ensures push { (b : ℕ) (v : Scalar) → HoldsAlike (CanPush b v) }
+    ensures push_array { (b : ℕ) → HoldsAlike (CanPushArray b) }
+    ensures push_object { (b h : ℕ) → HoldsAlike (CanPushObject b h) }
+    ensures copy { (b : ℕ) (p : Place) → HoldsAlike (CanCopy b p) }
+    ensures assign { (b : ℕ) (p : Place) → HoldsAlike (CanAssign b p) }
+    ensures link { (b : ℕ) (p : Place) → HoldsAlike (CanLink b p) }
+    ensures bind { (b : ℕ) (p : Place) → HoldsAlike (CanBind b p) }
+    ensures settle { (b : ℕ) → HoldsAlike (CanSettle b) }
+    ensures pass { (b c : ℕ) → HoldsAlike (CanPass b c) }
+    ensures unset { (b : ℕ) (p : Place) → HoldsAlike (CanUnset b p) }
+    ensures unset_last { (b : ℕ) (p : Place) → HoldsAlike (CanUnsetLast b p) }
+    ensures forget { (b : ℕ) → HoldsAlike (CanForget b) }
+    ensures drop_top { (b : ℕ) → HoldsAlike (CanDropTop b) }
+    ensures object { (b : ℕ) → HoldsAlike (CanMakeObject b) }
+    ensures clone_object { (b : ℕ) → HoldsAlike (CanClone b) }
+    ensures attach { (h : ℕ) (frame : Option ℕ) → HoldsAlike (CanAttach h frame) }
 {}
