@@ -1,2 +1,4 @@
+pub mod Powers
+pub mod Prefixes
 pub mod Numerals
 pub mod Reading

@@ -1,5 +1,5 @@
 -- The tests of `written_int` decide what `parse` asks.
-use Rattle.std.proofs.Common.{ap, sym, inl, inr, ◌≡◌, ℕ, ◌^◌, Bool, true, false, ◌&&◌, List, [], ◌∷◌, length, nat_lt, refl, arith}
+use Rattle.std.proofs.Common.{◌∙◌, ap, sym, inl, inr, ◌≡◌, ℕ, ◌^◌, Bool, true, false, ◌&&◌, List, [], ◌∷◌, length, nat_lt, refl, arith}
 use Rattle.std.specs.Prelude.{IsAscii, cond, drop, ◌==◌, ℤ, pos, negsuc, Some, None, Result, Ok, Err, IsUtf8, FitsSigned, if◌then◌else◌}
 use Rattle.std.specs.Bool.{Decides}
 use Rattle.std.specs.Char.{digit_value}
@@ -7,11 +7,15 @@ use Rattle.std.specs.Int.{w64}
 use Rattle.std.specs.List.{list_all}
 use Rattle.std.specs.Result.{result_ok}
 use Rattle.std.specs.Str.Parse.{AllDigits, IsNumeral, ParsesSigned, without_leading_sign, signed_digits_value}
-use Rattle.std.proofs.lemmas.Bool.Decides.{Decides-ltb, Decides-like, Decides-and}
+use Rattle.std.proofs.lemmas.Bool.Decides.{Decides-ltb, Decides-like, Decides-and, not_from_Decides}
 use Rattle.std.proofs.lemmas.Bool.{cases_Bool, eqb-true}
 use Rattle.std.proofs.lemmas.Str.Ascii.{IsAscii-cons}
-use Rattle.std.proofs.lemmas.Fmt.{IsAscii-from_digits}
+use Rattle.std.proofs.lemmas.Fmt.{IsAscii-from_digits, parse-signed_decimal}
 use Rattle.std.proofs.lemmas.Str.{IsUtf8-from_ascii, IsUtf8-nil}
+use Rattle.std.specs.Cmp.Lexicographic.{bytes_decides}
+use Rattle.std.specs.Fmt.{signed_decimal}
+use Rattle.php_value.specs.declared.key.Key.TheVariants.{Int}
+use Rattle.php_value.specs.Key.{key_of_text}
 use Rattle.php_value.specs.Decimal.{fits_int, is_numeral, written_int}
 
 pub fits_int-decides : (z : ℤ) → Decides (fits_int z) (FitsSigned w64 z)
@@ -71,3 +75,32 @@ digits_are_text (c ∷ cs) h = IsUtf8-from_ascii (c ∷ cs) (signed_digits_are_a
 -- bytes that are no text write no integer
 pub unreadable : (bs : List ℕ) → (IsUtf8 bs → ⊥) → None ≡ written_int bs
 unreadable bs h = sym (written_int-none bs (λ w. h (digits_are_text bs w.0.1)))
+
+-- the decimal text of an integer writes that integer
+abbrev as_read : ℤ → Result ℤ ℕ
+as_read v = Ok v
+
+abbrev as_unread : Result ℤ ℕ
+as_unread = Err 0
+
+read_back : (z v : ℤ) → FitsSigned w64 z → ParsesSigned w64 10 (signed_decimal z) (as_read v) → v ≡ z
+read_back z v fits h =
+    let same : as_read v ≡ Ok z = parse-signed_decimal w64 z (signed_decimal z) (as_read v) fits fits.sfits refl h in cc
+
+unread : (z : ℤ) → FitsSigned w64 z → (WritesInt (signed_decimal z) → ⊥) → ⊥
+unread z fits h =
+    let same : as_unread ≡ Ok z = parse-signed_decimal w64 z (signed_decimal z) as_unread fits fits.sfits refl h in cc
+
+pub written_int-signed_decimal : (z : ℤ) → FitsSigned w64 z → written_int (signed_decimal z) ≡ Some z
+written_int-signed_decimal z fits =
+    elim (cases_Bool (is_numeral (without_leading_sign (signed_decimal z)) && fits_int (signed_digits_value 10 (signed_decimal z)))) [
+      | inl passes ↦
+          let writes : WritesInt (signed_decimal z) = (both-decide (signed_decimal z)).0 passes in
+          written_int-some (signed_decimal z) writes ∙ ap Some (read_back z (signed_digits_value 10 (signed_decimal z)) fits (writes, refl))
+      | inr fails ↦ absurd (unread z fits (not_from_Decides _ (both-decide (signed_decimal z)) fails))
+    ]
+
+pub key_of_text-signed_decimal : (z : ℤ) → FitsSigned w64 z → key_of_text (signed_decimal z) ≡ Int z
+key_of_text-signed_decimal z fits =
+    rw (written_int-signed_decimal z fits)
+    (rw ((bytes_decides (signed_decimal z) (signed_decimal z)).1 refl) refl)

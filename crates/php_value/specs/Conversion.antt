@@ -15,7 +15,7 @@ use Rattle.php_value.specs.declared.scalar_type.ScalarType.{ScalarType}
 use Rattle.php_value.specs.declared.scalar_type.ScalarType.TheVariants.{Int as IntType, Str as StrType, Bool as BoolType}
 use Rattle.php_value.specs.Form.{form_of}
 use Rattle.php_value.specs.Key.{bit_of}
-use Rattle.php_value.specs.ErrorKind.{type_mismatch}
+use Rattle.php_value.specs.declared.error_kind.TheConstants.ErrorKind.{TYPE_MISMATCH}
 
 -- neither the empty text nor the text `0`, whose byte is 48
 abbrev pub has_truth : List ℕ → Bool
@@ -49,28 +49,35 @@ text_of (Truth false) = []
 text_of (Int z) = signed_decimal z
 text_of (Str t) = t
 
--- a text fits the type int where it begins with an integer
-abbrev pub coerced_form : Form → Result Scalar Stopped
-coerced_form NoNumber = Err (Throws type_mismatch)
-coerced_form (IntForm z) = Ok (Int z)
-coerced_form (LeadInt z) = Ok (Int z)
-coerced_form Float = Err (Ends FloatNeeded)
-coerced_form LeadFloat = Err (Ends FloatNeeded)
+-- the integer that a text begins with
+abbrev pub fitting_form : Form → Result ℤ Stopped
+fitting_form NoNumber = Err (Throws TYPE_MISMATCH)
+fitting_form (IntForm z) = Ok z
+fitting_form (LeadInt z) = Ok z
+fitting_form Float = Err (Ends FloatNeeded)
+fitting_form LeadFloat = Err (Ends FloatNeeded)
+
+abbrev pub fitting_int : List ℕ → Result ℤ Stopped
+fitting_int t = fitting_form (form_of t)
+
+abbrev pub as_scalar : Result ℤ Stopped → Result Scalar Stopped
+as_scalar (Ok z) = Ok (Int z)
+as_scalar (Err e) = Err e
 
 -- what each type takes besides its own values, unless types are strict
 abbrev pub converted : ScalarType → Scalar → Result Scalar Stopped
 converted IntType (Truth b) = Ok (Int (bit_of b))
-converted IntType (Str t) = coerced_form (form_of t)
+converted IntType (Str t) = as_scalar (fitting_int t)
 converted StrType (Int z) = Ok (Str (signed_decimal z))
 converted StrType (Truth b) = Ok (Str (text_of (Truth b)))
 converted BoolType (Int z) = Ok (Truth (bool_of (Int z)))
 converted BoolType (Str t) = Ok (Truth (bool_of (Str t)))
-converted t v = Err (Throws type_mismatch)
+converted t v = Err (Throws TYPE_MISMATCH)
 
 -- a type takes its own values as they are
 abbrev pub coerced : ScalarType → Bool → Scalar → Result Scalar Stopped
 coerced IntType is_strict (Int z) = Ok (Int z)
 coerced StrType is_strict (Str t) = Ok (Str t)
 coerced BoolType is_strict (Truth b) = Ok (Truth b)
-coerced t true v = Err (Throws type_mismatch)
+coerced t true v = Err (Throws TYPE_MISMATCH)
 coerced t false v = converted t v

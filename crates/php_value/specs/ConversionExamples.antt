@@ -6,7 +6,7 @@ use Rattle.php_value.specs.declared.fault.Stopped.TheVariants.{Throws}
 use Rattle.php_value.specs.declared.scalar.Scalar.TheVariants.{Null, Bool as Truth, Int, Str}
 use Rattle.php_value.specs.declared.scalar_type.ScalarType.TheVariants.{Int as IntType, Str as StrType, Bool as BoolType}
 use Rattle.php_value.specs.Conversion.{bool_of, int_of, text_of, coerced}
-use Rattle.php_value.specs.ErrorKind.{type_mismatch}
+use Rattle.php_value.specs.declared.error_kind.TheConstants.ErrorKind.{TYPE_MISMATCH}
 
 pub zero_is_false : bool_of (Int (pos 0)) ≡ false
 zero_is_false = refl
@@ -48,13 +48,13 @@ numeric_text_fits_int = refl
 pub leading_int_fits_int : coerced IntType false (Str (codes "7x")) ≡ Ok (Int (pos 7))
 leading_int_fits_int = refl
 
-pub letters_fit_no_int : coerced IntType false (Str (codes "x")) ≡ Err (Throws type_mismatch)
+pub letters_fit_no_int : coerced IntType false (Str (codes "x")) ≡ Err (Throws TYPE_MISMATCH)
 letters_fit_no_int = refl
 
-pub strict_int_takes_no_text : coerced IntType true (Str (codes "7")) ≡ Err (Throws type_mismatch)
+pub strict_int_takes_no_text : coerced IntType true (Str (codes "7")) ≡ Err (Throws TYPE_MISMATCH)
 strict_int_takes_no_text = refl
 
-pub null_fits_no_type : coerced StrType false Null ≡ Err (Throws type_mismatch)
+pub null_fits_no_type : coerced StrType false Null ≡ Err (Throws TYPE_MISMATCH)
 null_fits_no_type = refl
 
 pub text_fits_bool : coerced BoolType false (Str (codes "0")) ≡ Ok (Truth false)

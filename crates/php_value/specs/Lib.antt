@@ -4,7 +4,6 @@ pub mod Conversion
 pub mod ConversionExamples
 pub mod Decimal
 pub mod DecimalExamples
-pub mod ErrorKind
 pub mod Form
 pub mod FormExamples
 pub mod Key
@@ -12,3 +11,5 @@ pub mod KeyExamples
 pub mod Operator
 pub mod OperatorExamples
 pub mod Reading
+pub mod Scalar
+pub mod Stopped

@@ -1,5 +1,5 @@
 -- What the operators give.
-use Rattle.std.specs.Prelude.{ℕ, ◌-◌, Bool, true, false, List, [], ◌∷◌, ◌++◌, length, map, ℤ, pos, negsuc, ◌+ℤ◌, ◌-ℤ◌, ◌*ℤ◌, int_div, int_rem, int_lt, nat_lt, bit_and, bit_or, bit_xor, Result, Ok, Err, if◌then◌else◌}
+use Rattle.std.specs.Prelude.{ℕ, ◌-◌, Bool, true, false, List, ◌++◌, length, map, ℤ, pos, negsuc, ◌+ℤ◌, ◌-ℤ◌, ◌*ℤ◌, int_div, int_rem, int_lt, nat_lt, bit_and, bit_or, bit_xor, drop, zip, Result, Ok, Err, if◌then◌else◌}
 use Rattle.std.specs.Int.{w64, int_pow, int_shl, int_shr, int_bit_and, int_bit_or, int_bit_xor}
 use Rattle.std.specs.Fmt.{signed_decimal}
 use Rattle.std.specs.Ordering.{int_eq}
@@ -15,7 +15,7 @@ use Rattle.php_value.specs.declared.scalar.Scalar.{Scalar}
 use Rattle.php_value.specs.declared.scalar.Scalar.TheVariants.{Null, Bool as Truth, Int, Str}
 use Rattle.php_value.specs.Conversion.{int_of, text_of}
 use Rattle.php_value.specs.Decimal.{fits_int}
-use Rattle.php_value.specs.ErrorKind.{unsupported_operands, not_countable, division_by_zero, arithmetic_error}
+use Rattle.php_value.specs.declared.error_kind.TheConstants.ErrorKind.{UNSUPPORTED_OPERANDS, NOT_COUNTABLE, DIVISION_BY_ZERO, ARITHMETIC}
 use Rattle.php_value.specs.Form.{form_of}
 
 -- an integer of 64 bits is the result, and any other overflows
@@ -36,23 +36,23 @@ power x (negsuc n) = Err (Ends FloatNeeded)
 -- the exact quotient
 abbrev pub quotient : ℤ → ℤ → Result Scalar Stopped
 quotient x y =
-    if int_eq y (pos 0) then Err (Throws division_by_zero)
+    if int_eq y (pos 0) then Err (Throws DIVISION_BY_ZERO)
     else if int_eq (int_rem x y) (pos 0) then int_result (int_div x y)
     else Err (Ends InexactQuotient)
 
 -- the remainder has the sign of the left
 abbrev pub remainder : ℤ → ℤ → Result Scalar Stopped
-remainder x y = if int_eq y (pos 0) then Err (Throws division_by_zero) else Ok (Int (int_rem x y))
+remainder x y = if int_eq y (pos 0) then Err (Throws DIVISION_BY_ZERO) else Ok (Int (int_rem x y))
 
 -- the low 64 bits of the product with a power of two
 abbrev pub shifted_left : ℤ → ℤ → Result Scalar Stopped
 shifted_left x (pos n) = Ok (Int (if nat_lt n 64 then int_shl w64 x n else pos 0))
-shifted_left x (negsuc n) = Err (Throws arithmetic_error)
+shifted_left x (negsuc n) = Err (Throws ARITHMETIC)
 
 -- the quotient by a power of two, rounded down
 abbrev pub shifted_right : ℤ → ℤ → Result Scalar Stopped
 shifted_right x (pos n) = Ok (Int (if nat_lt n 64 then int_shr x n else (if int_lt x (pos 0) then negsuc 0 else pos 0)))
-shifted_right x (negsuc n) = Err (Throws arithmetic_error)
+shifted_right x (negsuc n) = Err (Throws ARITHMETIC)
 
 abbrev pub on_ints : Op → ℤ → ℤ → Result Scalar Stopped
 on_ints Add x y = int_result (x +ℤ y)
@@ -70,17 +70,13 @@ on_ints Concat x y = joined (signed_decimal x ++ signed_decimal y)
 
 -- ---- operators on two texts
 
--- up to the end of the shorter text
+-- byte by byte to the end of the shorter text
 abbrev pub common_bytes : (ℕ → ℕ → ℕ) → List ℕ → List ℕ → List ℕ
-common_bytes f [] t = []
-common_bytes f (x ∷ s) [] = []
-common_bytes f (x ∷ s) (y ∷ t) = f x y ∷ common_bytes f s t
+common_bytes f s t = map (λ p. f p.0 p.1) (zip s t)
 
--- up to the end of the longer text
+-- and then the rest of the longer
 abbrev pub or_bytes : List ℕ → List ℕ → List ℕ
-or_bytes [] t = t
-or_bytes (x ∷ s) [] = x ∷ s
-or_bytes (x ∷ s) (y ∷ t) = bit_or x y ∷ or_bytes s t
+or_bytes s t = common_bytes bit_or s t ++ drop (length t) s ++ drop (length s) t
 
 -- ---- operators on two scalars
 
@@ -117,23 +113,31 @@ makes_text op a b = false
 abbrev pub complement_of : Scalar → Result Scalar Stopped
 complement_of (Int z) = Ok (Int (negsuc 0 -ℤ z))
 complement_of (Str t) = Ok (Str (map (λ c. 255 - c) t))
-complement_of v = Err (Throws unsupported_operands)
+complement_of v = Err (Throws UNSUPPORTED_OPERANDS)
 
--- `++` and `--` add 1 or -1 to what is an integer
-abbrev pub counted_form : ℤ → Form → Result Scalar Stopped
-counted_form step (IntForm z) = int_result (z +ℤ step)
-counted_form step Float = Err (Ends FloatNeeded)
-counted_form step LeadFloat = Err (Ends FloatNeeded)
-counted_form step f = Err (Throws not_countable)
+-- the integer that a text is as a whole
+abbrev pub countable_form : Form → Result ℤ Stopped
+countable_form (IntForm z) = Ok z
+countable_form Float = Err (Ends FloatNeeded)
+countable_form LeadFloat = Err (Ends FloatNeeded)
+countable_form f = Err (Throws NOT_COUNTABLE)
 
-abbrev pub counted : ℤ → Scalar → Scalar → Result Scalar Stopped
-counted step begun Null = Ok begun
-counted step begun (Truth b) = Ok (Truth b)
-counted step begun (Int z) = int_result (z +ℤ step)
-counted step begun (Str t) = counted_form step (form_of t)
+abbrev pub countable : List ℕ → Result ℤ Stopped
+countable t = countable_form (form_of t)
+
+abbrev pub counted_from : Op → Result ℤ Stopped → Result Scalar Stopped
+counted_from op (Ok z) = on_ints op z (pos 1)
+counted_from op (Err e) = Err e
+
+-- `++` adds 1 to an integer and `--` subtracts 1, and a bool stays
+abbrev pub counted : Op → Scalar → Scalar → Result Scalar Stopped
+counted op begun Null = Ok begun
+counted op begun (Truth b) = Ok (Truth b)
+counted op begun (Int z) = on_ints op z (pos 1)
+counted op begun (Str t) = counted_from op (countable t)
 
 abbrev pub counted_up : Scalar → Result Scalar Stopped
-counted_up v = counted (pos 1) (Int (pos 1)) v
+counted_up v = counted Add (Int (pos 1)) v
 
 abbrev pub counted_down : Scalar → Result Scalar Stopped
-counted_down v = counted (negsuc 0) Null v
+counted_down v = counted Sub Null v

@@ -5,7 +5,7 @@ use Rattle.php_value.specs.declared.fault.Fault.TheVariants.{Overflow, InexactQu
 use Rattle.php_value.specs.declared.fault.Stopped.TheVariants.{Fault as Ends, Throws}
 use Rattle.php_value.specs.declared.op.Op.TheVariants.{Add, Sub, Pow, Div, Mod, Shl, Shr, And, Or, Xor, Concat}
 use Rattle.php_value.specs.declared.scalar.Scalar.TheVariants.{Null, Bool as Truth, Int, Str}
-use Rattle.php_value.specs.ErrorKind.{unsupported_operands, not_countable, division_by_zero, arithmetic_error}
+use Rattle.php_value.specs.declared.error_kind.TheConstants.ErrorKind.{UNSUPPORTED_OPERANDS, NOT_COUNTABLE, DIVISION_BY_ZERO, ARITHMETIC}
 use Rattle.php_value.specs.Operator.{arith_of, complement_of, counted_up, counted_down}
 
 pub sum_past_the_end : arith_of Add (Int (pos 9223372036854775807)) (Int (pos 1)) ≡ Err (Ends Overflow)
@@ -38,7 +38,7 @@ exact_quotient = refl
 pub inexact_quotient : arith_of Div (Int (pos 7)) (Int (pos 2)) ≡ Err (Ends InexactQuotient)
 inexact_quotient = refl
 
-pub quotient_by_zero : arith_of Div (Int (pos 7)) Null ≡ Err (Throws division_by_zero)
+pub quotient_by_zero : arith_of Div (Int (pos 7)) Null ≡ Err (Throws DIVISION_BY_ZERO)
 quotient_by_zero = refl
 
 pub quotient_past_the_end : arith_of Div (Int (negsuc 9223372036854775807)) (Int (negsuc 0)) ≡ Err (Ends Overflow)
@@ -59,7 +59,7 @@ shift_into_the_sign = refl
 pub shift_out : arith_of Shl (Int (pos 1)) (Int (pos 64)) ≡ Ok (Int (pos 0))
 shift_out = refl
 
-pub shift_by_a_negative : arith_of Shl (Int (pos 1)) (Int (negsuc 0)) ≡ Err (Throws arithmetic_error)
+pub shift_by_a_negative : arith_of Shl (Int (pos 1)) (Int (negsuc 0)) ≡ Err (Throws ARITHMETIC)
 shift_by_a_negative = refl
 
 pub shift_right_rounds_down : arith_of Shr (Int (negsuc 4)) (Int (pos 1)) ≡ Ok (Int (negsuc 2))
@@ -93,7 +93,7 @@ complement_of_an_int = refl
 pub complement_of_a_text : complement_of (Str (codes "a")) ≡ Ok (Str (158 ∷ []))
 complement_of_a_text = refl
 
-pub complement_of_a_bool : complement_of (Truth true) ≡ Err (Throws unsupported_operands)
+pub complement_of_a_bool : complement_of (Truth true) ≡ Err (Throws UNSUPPORTED_OPERANDS)
 complement_of_a_bool = refl
 
 pub null_counts_up_to_one : counted_up Null ≡ Ok (Int (pos 1))
@@ -108,7 +108,7 @@ text_counts_up = refl
 pub greatest_does_not_count_up : counted_up (Int (pos 9223372036854775807)) ≡ Err (Ends Overflow)
 greatest_does_not_count_up = refl
 
-pub letters_do_not_count : counted_up (Str (codes "9a")) ≡ Err (Throws not_countable)
+pub letters_do_not_count : counted_up (Str (codes "9a")) ≡ Err (Throws NOT_COUNTABLE)
 letters_do_not_count = refl
 
 pub float_text_does_not_count : counted_down (Str (codes "1.5x")) ≡ Err (Ends FloatNeeded)

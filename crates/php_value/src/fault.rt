@@ -1,5 +1,6 @@
 // What keeps an operation from a result.
 use crate::error_kind::ErrorKind;
+use php_base::NoMemory;
 
 /// A fatal fault: it ends the run at once.
 #[derive(Clone, Copy, Debug, Eq, PartialEq)]
@@ -29,4 +30,26 @@ pub enum Stopped {
     Throws(ErrorKind),
     /// Memory could not be had.
     NoMemory,
+}
+
+impl From<Fault> for Stopped {
+    ghost use Rattle.std.specs.Prelude.{◌≡◌};
+    ghost use Rattle.php_value.specs.declared.fault.Stopped.TheVariants.{Fault as Ends};
+
+    ghost from_gives = { λ fault stopped. stopped ≡ Ends fault };
+
+    fn from(fault: Fault) -> Stopped {
+        Stopped::Fault(fault)
+    }
+}
+
+impl From<NoMemory> for Stopped {
+    ghost use Rattle.std.specs.Prelude.{◌≡◌};
+    ghost use Rattle.php_value.specs.declared.fault.Stopped.TheVariants.{NoMemory as WantOfMemory};
+
+    ghost from_gives = { λ _ stopped. stopped ≡ WantOfMemory };
+
+    fn from(_: NoMemory) -> Stopped {
+        Stopped::NoMemory
+    }
 }

@@ -1,5 +1,6 @@
 // What a text is as a number.
-ghost use Rattle.std.specs.Prelude.{◌≡◌, ◌≤◌, length, map, IfSome};
+ghost use Rattle.std.specs.Prelude.{◌≡◌, ℕ, ◌<◌, ◌≤◌, List, length, map, take, IfSome, IsTrue, IsFalse};
+ghost use Rattle.php_value.specs.declared.form.ByteKind.{ByteKind};
 ghost use Rattle.php_value.specs.Form.{behind_blanks, form_of, is_blank, is_number, kind_of, longest_prefix};
 ghost use Rattle.php_value.specs.Reading.{ends_number, place_after};
 
@@ -108,16 +109,25 @@ pub fn numeric_form(bytes: &[u8]) -> Form
     let Some(len) = number_len(bytes) else {
         return Form::None;
     };
-    match (
-        written_int(behind_blanks(&bytes[..len])),
-        len == bytes.len(),
-    ) {
+    let number = written_int(behind_blanks(&bytes[..len]));
+    let is_whole = len == bytes.len();
+    match (number, is_whole) {
         (Some(i), true) => Form::Int(i),
         (Some(i), false) => Form::LeadInt(i),
         (None, true) => Form::Float,
         (None, false) => Form::LeadFloat,
     }
 }
+
+/// What decides the form of a text: the longest prefix that is a number is one, and no longer prefix is.
+pub fn longest_number_decides()
+    ensures number { (ks : List ByteKind) (n : ℕ) → longest_prefix is_number ks ≡ Some n
+        → IsTrue (is_number (take n ks)) }
+    ensures longest { (ks : List ByteKind) (n m : ℕ) → longest_prefix is_number ks ≡ Some n
+        → n < m → m ≤ length ks → IsFalse (is_number (take m ks)) }
+    ensures none { (ks : List ByteKind) (m : ℕ) → longest_prefix is_number ks ≡ None
+        → m ≤ length ks → IsFalse (is_number (take m ks)) }
+{}
 
 // The length of the longest prefix that is a number.
 fn number_len(bytes: &[u8]) -> Option<usize>

@@ -1,8 +1,8 @@
 // Shared bytes that do not change.
-ghost use Rattle.std.specs.Prelude.{◌≡◌, [], IfOk};
+ghost use Rattle.std.specs.Prelude.{◌≡◌, ◌++◌, [], IfOk};
 
 use php_base::NoMemory;
-use std::alloc::Global;
+use std::alloc::{AllocError, Global};
 use std::hash::{Hash, Hasher};
 use std::marker::Model;
 use std::rc::Rc;
@@ -35,8 +35,14 @@ impl Text {
     pub fn from_bytes(alloc: Global, bytes: &[u8]) -> Result<Text, NoMemory>
         ensures { IfOk result (λ t. t ≡ bytes.now) }
     {
-        let copied = bytes.to_vec(alloc)?;
-        let bytes = Rc::new(alloc, copied)?;
+        Text::from_vec(alloc, bytes.to_vec(alloc)?)
+    }
+
+    /// The text with the bytes of `bytes`, which are moved and not copied.
+    pub fn from_vec(alloc: Global, bytes: Vec<u8>) -> Result<Text, NoMemory>
+        ensures { IfOk result (λ t. t ≡ bytes.items) }
+    {
+        let bytes = Rc::new(alloc, bytes)?;
         Ok(Text { bytes: Some(bytes) })
     }
 
@@ -59,6 +65,26 @@ impl Text {
             Some(bytes) => Ok(Text {
                 bytes: Some(bytes.clone()?),
             }),
+        }
+    }
+
+    /// The bytes and then `more`. Where the text has no other owner it grows in place, with room to spare, so that many
+    /// appends copy each byte a few times at most. Otherwise its bytes are copied.
+    pub fn append(self, alloc: Global, more: &[u8]) -> Result<Text, NoMemory>
+        ensures { IfOk result (λ t. t ≡ self ++ more.now) }
+    {
+        let Text { bytes } = self;
+        let Some(mut shared) = bytes else {
+            return Text::from_bytes(alloc, more);
+        };
+        match Rc::get_mut(&mut shared) {
+            Some(own) => {
+                own.extend_from_slice(more)?;
+                Ok(Text {
+                    bytes: Some(shared),
+                })
+            }
+            None => Text::from_vec(alloc, extended(alloc, shared.as_slice(), more)?),
         }
     }
 }
@@ -96,4 +122,15 @@ impl Hash for Text {
     fn hash<H: Hasher>(&self, state: &mut H) {
         self.bytes().hash(state);
     }
+}
+
+// A copy of `bytes` with `more` behind it and room for as many bytes again.
+fn extended(alloc: Global, bytes: &[u8], more: &[u8]) -> Result<Vec<u8>, AllocError>
+    ensures { IfOk result (λ v. v.items ≡ bytes.now ++ more.now) }
+{
+    let len = bytes.len() + more.len();
+    let mut copy = Vec::with_capacity(alloc, len.saturating_mul(2))?;
+    copy.extend_from_slice(bytes)?;
+    copy.extend_from_slice(more)?;
+    Ok(copy)
 }
