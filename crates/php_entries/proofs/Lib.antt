@@ -1,3 +1,4 @@
+pub mod ChangeLemmas
 pub mod Examples
 pub mod KeyLemmas
 pub mod ListLemmas

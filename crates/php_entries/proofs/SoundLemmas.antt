@@ -6,7 +6,7 @@ use Rattle.php_value.specs.declared.key.Key.{Key}
 use Rattle.php_value.specs.declared.key.Key.TheVariants.{Int}
 use Rattle.php_entries.specs.Keys.{next_key_above}
 use Rattle.php_entries.specs.Listing.{Entry, Listing, no_entries, entry_at, last_of, is_full, is_at_limit, ENTRY_LIMIT, SERIAL_LIMIT, KEY_LIMIT}
-use Rattle.php_entries.specs.Changes.{with_entry, value_set, entry_added, value_appended, set_value, append_value, remove_key, popped, pop_entry, with_values, without_last}
+use Rattle.php_entries.specs.Changes.{with_entry, with_value, value_set, entry_added, value_appended, set_value, append_value, remove_key, popped, pop_entry, with_values, without_last}
 use Rattle.php_entries.specs.Soundness.{IsKeyBelow, IsSound, KeepsSound}
 use Rattle.php_entries.proofs.KeyLemmas.{IsKeyBelow-next_key_above, next_key_above-up, next_key_above-within, next_key_without-down}
 use Rattle.php_entries.proofs.ListLemmas as list
@@ -53,8 +53,8 @@ module _ {T : Type 0} where
   entry_added-sound true l k v s none within room = tt
   entry_added-sound false l k v s none within room = with_entry-sound l k v s none within room
 
-  value_set-sound : (o : Option (Entry T)) (l : Listing T) (k : Key) (v : T) → IsSound l → entry_at l k ≡ o → IsKeyBelow KEY_LIMIT k → KeepsSound (value_set o l k v)
-  value_set-sound (Some e) l k v s is within = record {
+  pub with_value-sound : (l : Listing T) (k : Key) (v : T) → IsSound l → IsSound (record l { entries = with_value k v l.entries })
+  with_value-sound l k v s = record {
     keys_distinct = list.AreKeysDistinct-with_value k v l.entries s.keys_distinct;
     keys_below = list.AreKeysBelow-with_value l.next_key k v l.entries s.keys_below;
     serials_rise = list.DoSerialsRise-with_value 0 k v l.entries l.next_serial s.serials_rise;
@@ -63,6 +63,9 @@ module _ {T : Type 0} where
     next_serial_within = s.next_serial_within;
     count_within = (let bound = s.count_within in omega (arith, list.length-with_value k v l.entries));
   }
+
+  value_set-sound : (o : Option (Entry T)) (l : Listing T) (k : Key) (v : T) → IsSound l → entry_at l k ≡ o → IsKeyBelow KEY_LIMIT k → KeepsSound (value_set o l k v)
+  value_set-sound (Some e) l k v s is within = with_value-sound l k v s
   value_set-sound None l k v s is within = entry_added-sound (is_at_limit l) l k v s is within refl
 
   pub set_value-sound : (l : Listing T) (k : Key) (v : T) → IsSound l → IsKeyBelow KEY_LIMIT k → KeepsSound (set_value l k v)

@@ -1,0 +1,4 @@
+pub mod IndexLemmas
+pub mod KeptLemmas
+pub mod PlaceLemmas
+pub mod SlotLemmas

@@ -1,0 +1,29 @@
+use Rattle.std.proofs.Common.{rules, ◌≡◌, ◌<◌, ◌≤◌, ◌+◌, ◌-◌, ◌/◌, ◌⊎◌, inl, inr, ℕ, length, sym, ◌∙◌, ap, subst, arith}
+use Rattle.php_array.specs.Slots.{serial_at}
+use Rattle.php_array.proofs.SlotLemmas.{serials_through, serials_behind}
+use Rattle.php_array.proofs.places.slots_through.Goals as goal
+
+pub loop-low-preserved-then-slot_serial-serial : goal.loop-low-preserved-then-slot_serial-serial
+loop-low-preserved-then-slot_serial-serial g c =
+    let ss = c.args.slots.now.items in
+    let middle = c.loop-low.low + (c.loop-low.high - c.loop-low.low) / 2 in
+    let ok = c.args.slots.now.ok in
+    let within : middle < length ss = omega arith in
+    record {
+      ordered = omega arith;
+      within = c.loop-low.invariant.within;
+      through = serials_through ss c.requires.0 middle c.args.serial c.requires.1 within (omega arith);
+      behind = c.loop-low.invariant.behind;
+    }
+
+pub loop-low-preserved : goal.loop-low-preserved
+loop-low-preserved g c =
+    let ss = c.args.slots.now.items in
+    let middle = c.loop-low.low + (c.loop-low.high - c.loop-low.low) / 2 in
+    let ok = c.args.slots.now.ok in
+    record {
+      ordered = omega arith;
+      within = omega arith;
+      through = c.loop-low.invariant.through;
+      behind = λ i above within. serials_behind ss c.requires.0 middle c.args.serial c.requires.1 (omega arith) i above (omega arith);
+    }

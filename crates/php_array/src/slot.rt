@@ -1,0 +1,50 @@
+// The slots of an array, in the order in which their entries were made.
+ghost use Rattle.std.specs.Prelude.{◌≡◌, ◌<◌, IsSome, Some, option_copied, option_map, length};
+
+use php_value::Key;
+use std::mem;
+
+/// An entry as it is stored.
+#[derive(Drop)]
+pub struct Stored<T> {
+    pub serial: u64,
+    pub key: Key,
+    pub value: T,
+}
+
+/// Where an entry stands, or stood: a hole keeps the serial, so that the serials of all slots rise.
+#[derive(Drop)]
+pub enum Slot<T> {
+    Hole(u64),
+    Live(Stored<T>),
+}
+
+impl<T> Stored<T> {
+    pub fn value(&self) -> &T
+        ensures { result.now ≡ self.now.value }
+    {
+        &self.value
+    }
+}
+
+impl<T> Slot<T> {
+    ghost use Rattle.php_array.specs.Slots.{serial_of, stored_in};
+
+    pub fn serial(&self) -> u64
+        ensures { result ≡ serial_of self.now }
+    {
+        match self {
+            Slot::Hole(serial) => *serial,
+            Slot::Live(stored) => stored.serial,
+        }
+    }
+
+    pub fn stored(&self) -> Option<&Stored<T>>
+        ensures { option_copied result ≡ stored_in self.now }
+    {
+        match self {
+            Slot::Hole(_) => None,
+            Slot::Live(stored) => Some(stored),
+        }
+    }
+}
