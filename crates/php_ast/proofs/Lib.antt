@@ -1,0 +1,16 @@
+mod Examples
+mod Signs
+mod Sound
+mod Fill
+mod Settle
+mod Soundness
+mod Trees
+mod Steps
+mod ReadBack
+mod Appended
+mod Notes
+mod LawProofs
+mod RulesAgree
+mod StatementExamples
+mod TraceSteps
+mod TraceBack

@@ -1,0 +1,475 @@
+-- The spelling of a proper tree is read as that tree, whatever follows that doesn't go on with it.
+use Rattle.std.proofs.Common.{◌≡◌, ◌≤◌, ◌<◌, ◌⊎◌, inl, inr, Bool, true, false, Option, Some, None, List, [], ◌∷◌, refl, sym, ◌∙◌, ap, subst, arith}
+use Rattle.php_lex.specs.declared.kind.Keyword.TheVariants as word
+use Rattle.php_lex.specs.declared.kind.Punct.TheVariants as mark
+use Rattle.php_ast.specs.declared.operator.Binary.{Binary}
+use Rattle.php_ast.specs.declared.operator.Binary.TheVariants as binary_op
+use Rattle.php_ast.specs.declared.operator.Assign.{Assign}
+use Rattle.php_ast.specs.declared.operator.Assign.TheVariants as setting
+use Rattle.php_ast.specs.declared.operator.ArrayForm.TheVariants as form
+use Rattle.php_ast.specs.Symbol as symbol
+use Rattle.php_ast.specs.Symbol.{Symbol, keyword, punct}
+use Rattle.php_ast.specs.Tree.{parentheses, emptiness, exiting, array, isset, Arrow, thin, colons, by_value, by_reference, Member, named, reserved, held}
+use Rattle.php_ast.specs.Tree.{leaf, template, enclosed, listed, exit, exit_empty, static_member, append, index, selected, computed, call, new, new_with, prefix, counted, binary, instance, static_instance, choice, short_choice, assign, yield_nothing, yield_value, yield_pair}
+use Rattle.php_ast.specs.Tree.{Items, none, and, skip, Lead, plain, reference, spread, keyed, keyed_reference, Pieces, no_piece, bytes, value, Class, class_name, class_static, class_found, Steps, from, step_property, step_index}
+use Rattle.php_ast.specs.Spelling.{spell, spell_items, spell_lead, spell_pieces, spell_class, spell_steps, comma, member_symbol}
+use Rattle.php_ast.specs.Power.{binary_row, choice_row, instance_row}
+use Rattle.php_ast.specs.Proper.{free, power, ends, takes_arrow, ends_bare, IsWord, Proper, AreProperItems, IsProperLead, AreProperPieces, IsProperClass, AreProperSteps, HasSuffix, IsCallable}
+use Rattle.php_ast.specs.Sign.{Draw, goes, checks, asks, sets, counts, calls, indexes, selects, next, draw_weight, weight_of, is_arrow, ends_yield}
+use Rattle.php_ast.specs.Machine.{Nothing, Form, Holder, of_call, of_new, of_list, Frame, in_enclosed, in_items, in_index, in_computed, in_step, in_part, in_then, in_else, in_short, in_prefix, in_binary, in_instance, in_assign, in_yield, in_yield_value, Stack, Mode, need, have, at_items, at_value, at_static_colons, at_template, at_arrow, at_new, at_class, at_step, at_yield, level_at, level, ends_at, filled, seat_end, lacks, end_at, closed_with, holder_closing, is_array, after_by, after, assigning, goes_on, pick, start, stop_whole, stop_yield, is_last, onward, run}
+use Rattle.php_ast.proofs.Signs.{draw_symbol, next_draw}
+use Rattle.php_ast.proofs.Sound.{SoundList, SoundEnd, SoundLead}
+use Rattle.php_ast.proofs.Fill.{binary_small, edge_small, prefix_small, level_top, endless, endless_call}
+use Rattle.php_ast.proofs.Trees.{ends_some, bare_ends, left_power, IsOpen, open_by_ends, operand_ends, Starts, starts}
+use Rattle.php_ast.proofs.Steps.{head_next, head_weight, after_low, suffix_on, operator_on, ended_step, ended, prefix_on, yield_on, leaf_on, enter_index, enter_exit, enter_then, enter_assign, enter_value, enter_items, enter_yield, exit_done, class_done, static_done}
+
+-- ---- what may follow a tree
+
+abbrev pub IsGoing : Option Mode → Type 0
+IsGoing None = ⊥
+IsGoing (Some m) = Unit {0}
+
+-- what follows a `yield` alone, which either goes on or has nothing more to close
+pub record StandsBare (e : Form) (s : Stack) (w : List Symbol) : Type 0 where
+  pub ends_it : ends_yield (head_next w) ≡ true
+  pub goes : (lacks s ≡ []) ⊎ IsGoing (goes_on e s (head_next w))
+
+pub record Follows (e : Form) (s : Stack) (w : List Symbol) : Type 0 where
+  pub low : head_weight w < ends e
+  pub arrow : is_arrow (head_next w) ≡ true → takes_arrow e ≡ false
+  pub bare : ends_bare e ≡ true → StandsBare e s w
+
+pub draw_some : (d : Draw) → 2 ≤ draw_weight d
+draw_some (goes op) = some_power op
+  where
+    some_power : (op : Binary) → 2 ≤ (binary_row op).power
+    some_power binary_op.Power = omega arith
+    some_power _ = omega arith
+draw_some checks = omega arith
+draw_some asks = omega arith
+draw_some (sets op) = omega arith
+draw_some (counts c) = omega arith
+draw_some calls = omega arith
+draw_some indexes = omega arith
+draw_some (selects arrow) = omega arith
+
+-- what goes on with the tree itself
+pub follows_draw : (d : Draw) (e : Form) (s : Stack) (w : List Symbol) → draw_weight d < ends e → Follows e s (draw_symbol d ∷ w)
+follows_draw d e s w h = record {
+  low = subst (λ x. weight_of x < ends e) (sym (next_draw d)) h;
+  arrow = λ a. let n : is_arrow (next (draw_symbol d)) ≡ false = ap is_arrow (next_draw d) in cc;
+  bare = λ b. absurd (omega (arith, bare_ends e b, draw_some d));
+}
+
+abbrev pub yield_frame : Frame → Bool
+yield_frame in_yield = true
+yield_frame _ = false
+
+pub ends_at_level : (b : Bool) (f : Frame) → yield_frame f ≡ false → ends_at b f ≡ level_at f
+ends_at_level false f h = refl
+ends_at_level true in_yield h = cc
+ends_at_level true (in_enclosed enclosure) h = refl
+ends_at_level true _ h = refl
+
+lacks_in : (f : Frame) (s : Stack) → 0 < level_at f → lacks (f ∷ s) ≡ lacks s
+lacks_in f s on = ap (λ b. end_at f (seat_end b s (lacks s))) (endless_call f on) ∙ endless f (lacks s) on
+
+bare_inside : (f : Frame) (s : Stack) (e : Form) (w : List Symbol) → 0 < level_at f → head_weight w < ends_at (is_arrow (head_next w)) f
+    → StandsBare (filled f e) s w → StandsBare e (f ∷ s) w
+bare_inside f s e w on short h = record {
+  ends_it = h.ends_it;
+  goes = elim h.goes [
+    | inl shut ↦ inl (lacks_in f s on ∙ shut)
+    | inr going ↦ inr (subst IsGoing (sym (ended_step f s e (head_next w) short)) going)
+  ];
+}
+
+-- what may follow a form may follow the tree at its end
+pub inside : (f : Frame) (s : Stack) (e : Form) (w : List Symbol) → 0 < level_at f → head_weight w < ends_at (is_arrow (head_next w)) f → head_weight w < ends e
+    → (is_arrow (head_next w) ≡ true → takes_arrow e ≡ false) → (ends_bare e ≡ true → ends_bare (filled f e) ≡ true) → Follows (filled f e) s w → Follows e (f ∷ s) w
+inside f s e w on short low arrow bare h = record { low = low; arrow = arrow; bare = λ b. bare_inside f s e w on short (h.bare (bare b)) }
+
+-- the end of a form that is no class behind `instanceof`
+close_by : (f : Frame) (s : Stack) (e : Form) (w : List Symbol) → 0 < level_at f → level_at f < 90 → head_weight w < ends_at (is_arrow (head_next w)) f
+    → run (after e (f ∷ s)) w ≡ run (have (filled f e) s) w
+close_by f s e w on small short = ap (λ m. run m w) (after_low e (f ∷ s) small) ∙ ended f s e w on short
+
+pub not_true : (b : Bool) → (b ≡ true → true ≡ false) → b ≡ false
+not_true false h = refl
+not_true true h = h refl
+
+-- ---- steps with names
+
+member_on : (arrow : Arrow) (m : Member Nothing) (e : Form) (s : Stack) (w : List Symbol) → run (at_arrow arrow e s) (member_symbol m ∷ w) ≡ run (have (selected e arrow m) s) w
+member_on thin (named spot text) e s w = refl
+member_on thin (reserved spot k) e s w = refl
+member_on thin (held spot text) e s w = refl
+member_on colons (named spot text) e s w = refl
+member_on colons (reserved spot k) e s w = refl
+member_on colons (held spot text) e s w = refl
+
+static_on : (m : Member Nothing) (s : Stack) (w : List Symbol) → run (at_static_colons s) (member_symbol m ∷ w) ≡ run (have (static_member tt m) s) w
+static_on (named spot text) s w = refl
+static_on (reserved spot k) s w = refl
+static_on (held spot text) s w = refl
+
+property_on : (m : Member Nothing) (steps : Steps Nothing) (s : Stack) (w : List Symbol) → IsWord m
+    → run (at_step steps s) (member_symbol m ∷ w) ≡ run (at_class (class_found (step_property steps m)) s) w
+property_on (named spot text) steps s w h = refl
+property_on (reserved spot k) steps s w h = refl
+property_on (held spot text) steps s w h = absurd h
+
+assigned_on : (op : Assign) (l : Form) (s : Stack) (v : List Symbol) → Starts v → run (assigning op l s) v ≡ run (need (in_assign (by_value op) l ∷ s)) v
+assigned_on setting.Plain l s v h = enter_assign l s v h
+assigned_on _ l s v h = refl
+
+class_called : (class : Class Nothing) (s : Stack) (w : List Symbol) → run (at_class class s) (punct mark.LeftParen ∷ w) ≡ run (at_items (of_new class) none s) w
+class_called (class_name spot text) s w = refl
+class_called (class_static spot) s w = refl
+class_called (class_found steps) s w = refl
+
+-- a `yield` alone
+bare_done : (s : Stack) (w : List Symbol) → StandsBare (yield_nothing tt) s w → run (at_yield s) w ≡ run (have (yield_nothing tt) s) w
+bare_done s [] h = let e : false ≡ true = h.ends_it in cc
+bare_done s (t ∷ w) h =
+    ap (λ b. onward (pick b (goes_on (yield_nothing tt) s (next t)) (start (in_yield ∷ s) t)) (λ n. run n w) (stop_yield (is_last (t ∷ w) (lacks s)) s (t ∷ w))) h.ends_it
+    ∙ bare_by s t w (goes_on (yield_nothing tt) s (next t)) (lacks s) h.ends_it h.goes
+  where
+    bare_by : (s : Stack) (t : Symbol) (w : List Symbol) (o : Option Mode) (v : List Symbol) → ends_yield (next t) ≡ true → (v ≡ []) ⊎ IsGoing o
+        → onward o (λ n. run n w) (stop_yield (is_last (t ∷ w) v) s (t ∷ w)) ≡ onward o (λ n. run n w) (stop_whole (yield_nothing tt) s (t ∷ w))
+    bare_by s t w (Some n) v is g = refl
+    bare_by s t w None [] is g = ap (λ b. stop_yield b s (t ∷ w)) is
+    bare_by s t w None (x ∷ v) is g = elim g [ inl shut ↦ cc | inr going ↦ absurd going ]
+
+-- ---- what follows a tree between brackets
+
+pub follows_paren : (f : Frame) (s : Stack) (e : Form) (w : List Symbol) → IsGoing (goes_on e (f ∷ s) (next (punct mark.RightParen))) → Follows e (f ∷ s) (punct mark.RightParen ∷ w)
+follows_paren f s e w g = record { low = ends_some e; arrow = λ a. cc; bare = λ b. record { ends_it = refl; goes = inr g } }
+
+pub follows_bracket : (f : Frame) (s : Stack) (e : Form) (w : List Symbol) → IsGoing (goes_on e (f ∷ s) (next (punct mark.RightBracket))) → Follows e (f ∷ s) (punct mark.RightBracket ∷ w)
+follows_bracket f s e w g = record { low = ends_some e; arrow = λ a. cc; bare = λ b. record { ends_it = refl; goes = inr g } }
+
+pub follows_comma : (h : Holder) (items : Items Nothing) (lead : Lead Nothing) (s : Stack) (e : Form) (w : List Symbol) → Follows e (in_items h items lead ∷ s) (punct mark.Comma ∷ w)
+follows_comma h items lead s e w = record { low = ends_some e; arrow = λ a. cc; bare = λ b. record { ends_it = refl; goes = inr tt } }
+
+pub follows_shut : (t : Symbol) (s : Stack) (e : Form) (w : List Symbol) → weight_of (next t) ≡ 0 → (is_arrow (next t) ≡ true → takes_arrow e ≡ false) → ends_bare e ≡ false → Follows e s (t ∷ w)
+follows_shut t s e w is a b = record { low = omega (arith, ends_some e); arrow = a; bare = λ c. cc }
+
+-- ---- lists
+
+pub list_lead : (h : Holder) (items : Items Nothing) (lead : Lead Nothing) (e : Form) → SoundList h (and items lead e) → SoundList h items × SoundLead h lead
+list_lead (of_call f) items plain e s = (s, tt)
+list_lead (of_call f) items spread e s = (s, tt)
+list_lead (of_call f) items reference e s = absurd s
+list_lead (of_call f) items (keyed k) e s = absurd s
+list_lead (of_call f) items (keyed_reference k) e s = absurd s
+list_lead (of_new class) items plain e s = (s, tt)
+list_lead (of_new class) items spread e s = (s, tt)
+list_lead (of_new class) items reference e s = absurd s
+list_lead (of_new class) items (keyed k) e s = absurd s
+list_lead (of_new class) items (keyed_reference k) e s = absurd s
+list_lead (of_list (array form)) items plain e s = (s, tt)
+list_lead (of_list (array form)) items spread e s = absurd s
+list_lead (of_list (array form)) items reference e s = (s, tt)
+list_lead (of_list (array form)) items (keyed k) e s = (s, tt)
+list_lead (of_list (array form)) items (keyed_reference k) e s = (s, tt)
+list_lead (of_list isset) items plain e s = (s, tt)
+list_lead (of_list isset) items spread e s = absurd s
+list_lead (of_list isset) items reference e s = absurd s
+list_lead (of_list isset) items (keyed k) e s = absurd s
+list_lead (of_list isset) items (keyed_reference k) e s = absurd s
+
+pub list_skip : (h : Holder) (items : Items Nothing) → SoundList h (skip items) → (is_array h ≡ true) × SoundList h items
+list_skip (of_call f) items s = absurd s
+list_skip (of_new class) items s = absurd s
+list_skip (of_list (array form)) items s = (refl, s)
+list_skip (of_list isset) items s = absurd s
+
+pub follows_close : (h : Holder) (items : Items Nothing) (lead : Lead Nothing) (s : Stack) (e : Form) (w : List Symbol) → Follows e (in_items h items lead ∷ s) (holder_closing h ∷ w)
+follows_close (of_call f) items lead s e w = follows_paren (in_items (of_call f) items lead) s e w tt
+follows_close (of_new class) items lead s e w = follows_paren (in_items (of_new class) items lead) s e w tt
+follows_close (of_list (array form.Brackets)) items lead s e w = follows_bracket (in_items (of_list (array form.Brackets)) items lead) s e w tt
+follows_close (of_list (array form.Array)) items lead s e w = follows_paren (in_items (of_list (array form.Array)) items lead) s e w tt
+follows_close (of_list (array form.List)) items lead s e w = follows_paren (in_items (of_list (array form.List)) items lead) s e w tt
+follows_close (of_list isset) items lead s e w = follows_paren (in_items (of_list isset) items lead) s e w tt
+
+none_closed : (h : Holder) (s : Stack) (w : List Symbol) → SoundEnd h none → run (at_items h none s) (holder_closing h ∷ w) ≡ run (after (closed_with h none) s) w
+none_closed (of_call f) s w h = refl
+none_closed (of_new class) s w h = refl
+none_closed (of_list (array form.Brackets)) s w h = refl
+none_closed (of_list (array form.Array)) s w h = refl
+none_closed (of_list (array form.List)) s w h = refl
+none_closed (of_list isset) s w h = let e : true ≡ false = h.1 in cc
+
+item_closed : (h : Holder) (items : Items Nothing) (lead : Lead Nothing) (e : Form) (s : Stack) (w : List Symbol)
+    → run (have e (in_items h items lead ∷ s)) (holder_closing h ∷ w) ≡ run (after (closed_with h (and items lead e)) s) w
+item_closed (of_call f) items lead e s w = refl
+item_closed (of_new class) items lead e s w = refl
+item_closed (of_list (array form.Brackets)) items lead e s w = refl
+item_closed (of_list (array form.Array)) items lead e s w = refl
+item_closed (of_list (array form.List)) items lead e s w = refl
+item_closed (of_list isset) items lead e s w = refl
+
+skip_closed : (h : Holder) (items : Items Nothing) (s : Stack) (w : List Symbol) → SoundList h (skip items) → SoundEnd h (skip items)
+    → run (at_items h items s) (holder_closing h ∷ w) ≡ run (after (closed_with h (skip items)) s) w
+skip_closed (of_call f) items s w l h = absurd l
+skip_closed (of_new class) items s w l h = absurd l
+skip_closed (of_list (array form)) none s w l h = let e : true ≡ false = h.1 in cc
+skip_closed (of_list (array form.Brackets)) (and items lead e) s w l h = refl
+skip_closed (of_list (array form.Brackets)) (skip items) s w l h = refl
+skip_closed (of_list (array form.Array)) (and items lead e) s w l h = refl
+skip_closed (of_list (array form.Array)) (skip items) s w l h = refl
+skip_closed (of_list (array form.List)) (and items lead e) s w l h = refl
+skip_closed (of_list (array form.List)) (skip items) s w l h = refl
+skip_closed (of_list isset) items s w l h = absurd l
+
+skip_on : (h : Holder) (items : Items Nothing) (s : Stack) (w : List Symbol) → is_array h ≡ true → run (at_items h items s) (punct mark.Comma ∷ w) ≡ run (at_items h (skip items) s) w
+skip_on (of_call f) items s w h = cc
+skip_on (of_new class) items s w h = cc
+skip_on (of_list (array form)) items s w h = refl
+skip_on (of_list isset) items s w h = cc
+
+reference_on : (h : Holder) (items : Items Nothing) (s : Stack) (w : List Symbol) → SoundLead h reference
+    → run (at_items h items s) (punct mark.Ampersand ∷ w) ≡ run (need (in_items h items reference ∷ s)) w
+reference_on (of_call f) items s w h = absurd h
+reference_on (of_new class) items s w h = absurd h
+reference_on (of_list (array form)) items s w h = refl
+reference_on (of_list isset) items s w h = absurd h
+
+spread_on : (h : Holder) (items : Items Nothing) (s : Stack) (w : List Symbol) → SoundLead h spread
+    → run (at_items h items s) (punct mark.Ellipsis ∷ w) ≡ run (need (in_items h items spread ∷ s)) w
+spread_on (of_call f) items s w h = refl
+spread_on (of_new class) items s w h = refl
+spread_on (of_list (array form)) items s w h = absurd h
+spread_on (of_list isset) items s w h = absurd h
+
+pub keyed_array : (h : Holder) (k : Form) → SoundLead h (keyed k) ⊎ SoundLead h (keyed_reference k) → is_array h ≡ true
+keyed_array (of_call f) k h = elim h [ inl x ↦ absurd x | inr x ↦ absurd x ]
+keyed_array (of_new class) k h = elim h [ inl x ↦ absurd x | inr x ↦ absurd x ]
+keyed_array (of_list (array form)) k h = refl
+keyed_array (of_list isset) k h = elim h [ inl x ↦ absurd x | inr x ↦ absurd x ]
+
+key_on : (h : Holder) (items : Items Nothing) (k : Form) (s : Stack) (w : List Symbol) → is_array h ≡ true
+    → run (have k (in_items h items plain ∷ s)) (punct mark.DoubleArrow ∷ w) ≡ run (at_value h items k s) w
+key_on (of_call f) items k s w h = cc
+key_on (of_new class) items k s w h = cc
+key_on (of_list (array form)) items k s w h = refl
+key_on (of_list isset) items k s w h = cc
+
+-- ---- the whole
+
+-- behind a tree that is followed by a suffix
+open_suffix : (d : Draw) (e : Form) → 90 < draw_weight d → draw_weight d < ends e → IsOpen e
+open_suffix d e tight low = open_by_ends e (omega arith)
+
+pub suffix_low : (e : Form) → HasSuffix e → 100 < ends e
+suffix_low e h = omega (arith, (open_by_ends e (omega arith)).more h)
+
+pub call_low : (e : Form) → IsCallable e → 110 < ends e
+call_low e h = omega (arith, (open_by_ends e (omega arith)).most h)
+
+pub operand_near : (e : Form) (s : Stack) → free < ends e → level s ≤ power e
+operand_near e s h = omega (arith, level_top s, (open_by_ends e h).power_is)
+
+pub operator_small : (op : Binary) → (binary_row op).power < 90
+operator_small op = omega (arith, binary_small op)
+
+mutual
+  pub read_back : (e : Form) (s : Stack) (w : List Symbol) → Proper e → level s ≤ power e → Follows e s w → run (need s) (spell e w) ≡ run (after e s) w
+  read_back (leaf spot l) s w p near h = leaf_on l s w
+  read_back (template spot pieces) s w p near h = pieces_back pieces s (symbol.unquote ∷ w) p
+  read_back (enclosed spot parentheses e) s w p near h =
+      read_back e (in_enclosed parentheses ∷ s) (punct mark.RightParen ∷ w) p (omega arith) (follows_paren (in_enclosed parentheses) s e w tt)
+      ∙ ap (λ m. run m (punct mark.RightParen ∷ w)) (after_low e (in_enclosed parentheses ∷ s) (omega arith))
+  read_back (enclosed spot emptiness e) s w p near h =
+      read_back e (in_enclosed emptiness ∷ s) (punct mark.RightParen ∷ w) p (omega arith) (follows_paren (in_enclosed emptiness) s e w tt)
+      ∙ ap (λ m. run m (punct mark.RightParen ∷ w)) (after_low e (in_enclosed emptiness ∷ s) (omega arith))
+  read_back (enclosed spot exiting e) s w p near h =
+      enter_exit s (spell e (punct mark.RightParen ∷ w)) (starts e (punct mark.RightParen ∷ w))
+      ∙ read_back e (in_enclosed exiting ∷ s) (punct mark.RightParen ∷ w) p (omega arith) (follows_paren (in_enclosed exiting) s e w tt)
+      ∙ ap (λ m. run m (punct mark.RightParen ∷ w)) (after_low e (in_enclosed exiting ∷ s) (omega arith))
+  read_back (listed spot (array form.Brackets) items) s w p near h = list_back (of_list (array form.Brackets)) items s w p.0.0 p.0 p.1
+  read_back (listed spot (array form.Array) items) s w p near h = list_back (of_list (array form.Array)) items s w p.0.0 p.0 p.1
+  read_back (listed spot (array form.List) items) s w p near h = list_back (of_list (array form.List)) items s w p.0.0 p.0 p.1
+  read_back (listed spot isset items) s w p near h = list_back (of_list isset) items s w p.0.0 p.0 p.1
+  read_back (exit spot) s w p near h = exit_done s w h.low
+  read_back (exit_empty spot) s w p near h = refl
+  read_back (static_member spot m) s w p near h = static_on m s w
+  read_back (append e) s w p near h =
+      read_back e s (punct mark.LeftBracket ∷ punct mark.RightBracket ∷ w) p.1 (operand_near e s (omega arith)) (follows_draw indexes e s (punct mark.RightBracket ∷ w) (suffix_low e p.0))
+      ∙ suffix_on indexes e s (punct mark.RightBracket ∷ w) (omega arith) (suffix_low e p.0)
+  read_back (index e key) s w p near h =
+      read_back e s (punct mark.LeftBracket ∷ spell key (punct mark.RightBracket ∷ w)) p.1 (operand_near e s (omega arith))
+      (follows_draw indexes e s (spell key (punct mark.RightBracket ∷ w)) (suffix_low e p.0))
+      ∙ suffix_on indexes e s (spell key (punct mark.RightBracket ∷ w)) (omega arith) (suffix_low e p.0)
+      ∙ enter_index e s (spell key (punct mark.RightBracket ∷ w)) (starts key (punct mark.RightBracket ∷ w))
+      ∙ read_back key (in_index e ∷ s) (punct mark.RightBracket ∷ w) p.2 (omega arith) (follows_bracket (in_index e) s key w tt)
+      ∙ ap (λ m. run m (punct mark.RightBracket ∷ w)) (after_low key (in_index e ∷ s) (omega arith))
+  read_back (selected e arrow m) s w p near h =
+      read_back e s (draw_symbol (selects arrow) ∷ member_symbol m ∷ w) p.1 (operand_near e s (omega arith)) (follows_draw (selects arrow) e s (member_symbol m ∷ w) (suffix_low e p.0))
+      ∙ suffix_on (selects arrow) e s (member_symbol m ∷ w) (omega arith) (suffix_low e p.0)
+      ∙ member_on arrow m e s w
+  read_back (computed e key) s w p near h =
+      read_back e s (punct mark.Arrow ∷ punct mark.LeftBrace ∷ spell key (punct mark.RightBrace ∷ w)) p.1 (operand_near e s (omega arith))
+      (follows_draw (selects thin) e s (punct mark.LeftBrace ∷ spell key (punct mark.RightBrace ∷ w)) (suffix_low e p.0))
+      ∙ suffix_on (selects thin) e s (punct mark.LeftBrace ∷ spell key (punct mark.RightBrace ∷ w)) (omega arith) (suffix_low e p.0)
+      ∙ read_back key (in_computed e ∷ s) (punct mark.RightBrace ∷ w) p.3 (omega arith) (follows_shut (punct mark.RightBrace) (in_computed e ∷ s) key w refl (λ a. cc) p.2)
+      ∙ ap (λ m. run m (punct mark.RightBrace ∷ w)) (after_low key (in_computed e ∷ s) (omega arith))
+  read_back (call f items) s w p near h =
+      read_back f s (punct mark.LeftParen ∷ spell_items items (punct mark.RightParen ∷ w)) p.1 (operand_near f s (omega arith))
+      (follows_draw calls f s (spell_items items (punct mark.RightParen ∷ w)) (call_low f p.0))
+      ∙ suffix_on calls f s (spell_items items (punct mark.RightParen ∷ w)) (omega arith) (call_low f p.0)
+      ∙ list_back (of_call f) items s w p.2 p.2 p.3
+  read_back (new spot class) s w p near h = class_back class s w p ∙ class_done class s w h.low
+  read_back (new_with spot class items) s w p near h =
+      class_back class s (punct mark.LeftParen ∷ spell_items items (punct mark.RightParen ∷ w)) p.0
+      ∙ class_called class s (spell_items items (punct mark.RightParen ∷ w))
+      ∙ list_back (of_new class) items s w p.1 p.1 p.2
+  read_back (prefix spot op e) s w p near h =
+      let low : head_weight w < ends e = omega (arith, h.low) in
+      let short : head_weight w < ends_at (is_arrow (head_next w)) (in_prefix op) = omega (arith, h.low, ends_at_level (is_arrow (head_next w)) (in_prefix op) refl) in
+      prefix_on op s (spell e w) near
+      ∙ read_back e (in_prefix op ∷ s) w p.1 p.0 (inside (in_prefix op) s e w (omega arith) short low h.arrow (λ b. b) h)
+      ∙ close_by (in_prefix op) s e w (omega arith) (omega (arith, prefix_small op)) short
+  read_back (counted e count) s w p near h =
+      read_back e s (draw_symbol (counts count) ∷ w) p.1 (operand_near e s (operand_ends e p.0)) (follows_draw (counts count) e s w (operand_ends e p.0))
+      ∙ operator_on (counts count) e s w (omega arith) near (operand_ends e p.0)
+  read_back (binary op l r) s w p near h =
+      let low : head_weight w < ends r = omega (arith, h.low) in
+      let short : head_weight w < ends_at (is_arrow (head_next w)) (in_binary op l) =
+      omega (arith, h.low, edge_small op, ends_at_level (is_arrow (head_next w)) (in_binary op l) refl) in
+      read_back l s (draw_symbol (goes op) ∷ spell r w) p.2 (omega (arith, left_power l (binary_row op).power (binary_small op).0 p.0))
+      (follows_draw (goes op) l s (spell r w) p.0)
+      ∙ operator_on (goes op) l s (spell r w) (operator_small op) near p.0
+      ∙ read_back r (in_binary op l ∷ s) w p.3 p.1 (inside (in_binary op l) s r w (omega (arith, edge_small op)) short low h.arrow (λ b. b) h)
+      ∙ close_by (in_binary op l) s r w (omega (arith, edge_small op)) (omega (arith, binary_small op)) short
+  read_back (instance l r) s w p near h =
+      let opened : IsOpen r = open_by_ends r (operand_ends r p.1) in
+      let low : head_weight w < ends r = omega (arith, h.low, opened.ends_is) in
+      let short : head_weight w < ends_at (is_arrow (head_next w)) (in_instance l) =
+      omega (arith, h.low, ends_at_level (is_arrow (head_next w)) (in_instance l) refl) in
+      read_back l s (draw_symbol checks ∷ spell r w) p.3 (omega (arith, left_power l instance_row.power (omega arith) p.0)) (follows_draw checks l s (spell r w) p.0)
+      ∙ operator_on checks l s (spell r w) (omega arith) near p.0
+      ∙ read_back r (in_instance l ∷ s) w p.4 (omega (arith, opened.power_is)) (record { low = low; arrow = λ a. opened.no_arrow; bare = λ b. let e : ends_bare r ≡ false = opened.not_bare in cc })
+      ∙ ap (λ b. run (after_by b r (in_instance l ∷ s)) w) p.2
+      ∙ ended (in_instance l) s r w (omega arith) short
+  read_back (static_instance l spot) s w p near h =
+      read_back l s (draw_symbol checks ∷ keyword word.Static ∷ w) p.1 (omega (arith, left_power l instance_row.power (omega arith) p.0)) (follows_draw checks l s (keyword word.Static ∷ w) p.0)
+      ∙ operator_on checks l s (keyword word.Static ∷ w) (omega arith) near p.0
+      ∙ static_done l s w (omega (arith, h.low))
+  read_back (choice c a b) s w p near h =
+      let low : head_weight w < ends b = omega (arith, h.low) in
+      let short : head_weight w < ends_at (is_arrow (head_next w)) (in_else c a) = omega (arith, h.low, ends_at_level (is_arrow (head_next w)) (in_else c a) refl) in
+      read_back c s (punct mark.Question ∷ spell a (punct mark.Colon ∷ spell b w)) p.3 (omega (arith, left_power c choice_row.power (omega arith) p.0))
+      (follows_draw asks c s (spell a (punct mark.Colon ∷ spell b w)) p.0)
+      ∙ operator_on asks c s (spell a (punct mark.Colon ∷ spell b w)) (omega arith) near p.0
+      ∙ enter_then c s (spell a (punct mark.Colon ∷ spell b w)) (starts a (punct mark.Colon ∷ spell b w))
+      ∙ read_back a (in_then c ∷ s) (punct mark.Colon ∷ spell b w) p.4 (omega arith) (follows_shut (punct mark.Colon) (in_then c ∷ s) a (spell b w) refl (λ x. cc) p.1)
+      ∙ ap (λ m. run m (punct mark.Colon ∷ spell b w)) (after_low a (in_then c ∷ s) (omega arith))
+      ∙ read_back b (in_else c a ∷ s) w p.5 p.2 (inside (in_else c a) s b w (omega arith) short low h.arrow (λ x. x) h)
+      ∙ close_by (in_else c a) s b w (omega arith) (omega arith) short
+  read_back (short_choice c b) s w p near h =
+      let low : head_weight w < ends b = omega (arith, h.low) in
+      let short : head_weight w < ends_at (is_arrow (head_next w)) (in_short c) = omega (arith, h.low, ends_at_level (is_arrow (head_next w)) (in_short c) refl) in
+      read_back c s (punct mark.Question ∷ punct mark.Colon ∷ spell b w) p.2 (omega (arith, left_power c choice_row.power (omega arith) p.0))
+      (follows_draw asks c s (punct mark.Colon ∷ spell b w) p.0)
+      ∙ operator_on asks c s (punct mark.Colon ∷ spell b w) (omega arith) near p.0
+      ∙ read_back b (in_short c ∷ s) w p.3 p.1 (inside (in_short c) s b w (omega arith) short low h.arrow (λ x. x) h)
+      ∙ close_by (in_short c) s b w (omega arith) (omega arith) short
+  read_back (assign (by_value op) l r) s w p near h =
+      let low : head_weight w < ends r = omega (arith, h.low) in
+      let short : head_weight w < ends_at (is_arrow (head_next w)) (in_assign (by_value op) l) =
+      omega (arith, h.low, ends_at_level (is_arrow (head_next w)) (in_assign (by_value op) l) refl) in
+      read_back l s (draw_symbol (sets op) ∷ spell r w) p.2 (operand_near l s (operand_ends l p.0)) (follows_draw (sets op) l s (spell r w) (operand_ends l p.0))
+      ∙ operator_on (sets op) l s (spell r w) (omega arith) near (operand_ends l p.0)
+      ∙ assigned_on op l s (spell r w) (starts r w)
+      ∙ read_back r (in_assign (by_value op) l ∷ s) w p.3 p.1 (inside (in_assign (by_value op) l) s r w (omega arith) short low h.arrow (λ x. x) h)
+      ∙ close_by (in_assign (by_value op) l) s r w (omega arith) (omega arith) short
+  read_back (assign by_reference l r) s w p near h =
+      let low : head_weight w < ends r = omega (arith, h.low) in
+      let short : head_weight w < ends_at (is_arrow (head_next w)) (in_assign by_reference l) =
+      omega (arith, h.low, ends_at_level (is_arrow (head_next w)) (in_assign by_reference l) refl) in
+      read_back l s (draw_symbol (sets setting.Plain) ∷ punct mark.Ampersand ∷ spell r w) p.2 (operand_near l s (operand_ends l p.0))
+      (follows_draw (sets setting.Plain) l s (punct mark.Ampersand ∷ spell r w) (operand_ends l p.0))
+      ∙ operator_on (sets setting.Plain) l s (punct mark.Ampersand ∷ spell r w) (omega arith) near (operand_ends l p.0)
+      ∙ read_back r (in_assign by_reference l ∷ s) w p.3 p.1 (inside (in_assign by_reference l) s r w (omega arith) short low h.arrow (λ x. x) h)
+      ∙ close_by (in_assign by_reference l) s r w (omega arith) (omega arith) short
+  read_back (yield_nothing spot) s w p near h = yield_on s w near ∙ bare_done s w (h.bare refl)
+  read_back (yield_value spot v) s w p near h =
+      let arrow : is_arrow (head_next w) ≡ false = not_true (is_arrow (head_next w)) h.arrow in
+      let low : head_weight w < ends v = omega (arith, h.low) in
+      let short : head_weight w < ends_at (is_arrow (head_next w)) in_yield = subst (λ b. head_weight w < ends_at b in_yield) (sym arrow) (omega (arith, h.low)) in
+      yield_on s (spell v w) near ∙ enter_yield s (spell v w) (starts v w)
+      ∙ read_back v (in_yield ∷ s) w p.1 p.0 (inside in_yield s v w (omega arith) short low (λ a. cc) (λ x. x) h)
+      ∙ close_by in_yield s v w (omega arith) (omega arith) short
+  read_back (yield_pair spot k v) s w p near h =
+      let low : head_weight w < ends v = omega (arith, h.low) in
+      let short : head_weight w < ends_at (is_arrow (head_next w)) (in_yield_value k) = omega (arith, h.low, ends_at_level (is_arrow (head_next w)) (in_yield_value k) refl) in
+      yield_on s (spell k (punct mark.DoubleArrow ∷ spell v w)) near
+      ∙ enter_yield s (spell k (punct mark.DoubleArrow ∷ spell v w)) (starts k (punct mark.DoubleArrow ∷ spell v w))
+      ∙ read_back k (in_yield ∷ s) (punct mark.DoubleArrow ∷ spell v w) p.3 p.0 (follows_shut (punct mark.DoubleArrow) (in_yield ∷ s) k (spell v w) refl (λ a. p.1.0) p.1.1)
+      ∙ ap (λ m. run m (punct mark.DoubleArrow ∷ spell v w)) (after_low k (in_yield ∷ s) (omega arith))
+      ∙ read_back v (in_yield_value k ∷ s) w p.4 p.2 (inside (in_yield_value k) s v w (omega arith) short low h.arrow (λ x. x) h)
+      ∙ close_by (in_yield_value k) s v w (omega arith) (omega arith) short
+
+  pub list_back : (h : Holder) (items : Items Nothing) (s : Stack) (w : List Symbol) → SoundList h items → SoundEnd h items → AreProperItems items
+      → run (at_items h none s) (spell_items items (holder_closing h ∷ w)) ≡ run (after (closed_with h items) s) w
+  list_back h none s w l end p = none_closed h s w end
+  list_back h (and items lead e) s w l end p =
+      items_back h items s (spell_lead lead (spell e (holder_closing h ∷ w))) (list_lead h items lead e l).0 p.0
+      ∙ lead_back h items lead s (spell e (holder_closing h ∷ w)) (list_lead h items lead e l).1 p.1 (starts e (holder_closing h ∷ w))
+      ∙ read_back e (in_items h items lead ∷ s) (holder_closing h ∷ w) p.2 (omega arith) (follows_close h items lead s e w)
+      ∙ ap (λ m. run m (holder_closing h ∷ w)) (after_low e (in_items h items lead ∷ s) (omega arith))
+      ∙ item_closed h items lead e s w
+  list_back h (skip items) s w l end p =
+      items_back h items s (holder_closing h ∷ w) (list_skip h items l).1 p ∙ skip_closed h items s w l end
+
+  pub items_back : (h : Holder) (items : Items Nothing) (s : Stack) (w : List Symbol) → SoundList h items → AreProperItems items
+      → run (at_items h none s) (spell_items items (comma items w)) ≡ run (at_items h items s) w
+  items_back h none s w l p = refl
+  items_back h (and items lead e) s w l p =
+      items_back h items s (spell_lead lead (spell e (punct mark.Comma ∷ w))) (list_lead h items lead e l).0 p.0
+      ∙ lead_back h items lead s (spell e (punct mark.Comma ∷ w)) (list_lead h items lead e l).1 p.1 (starts e (punct mark.Comma ∷ w))
+      ∙ read_back e (in_items h items lead ∷ s) (punct mark.Comma ∷ w) p.2 (omega arith) (follows_comma h items lead s e w)
+      ∙ ap (λ m. run m (punct mark.Comma ∷ w)) (after_low e (in_items h items lead ∷ s) (omega arith))
+  items_back h (skip items) s w l p =
+      items_back h items s (punct mark.Comma ∷ w) (list_skip h items l).1 p ∙ skip_on h items s w (list_skip h items l).0
+
+  lead_back : (h : Holder) (items : Items Nothing) (lead : Lead Nothing) (s : Stack) (v : List Symbol) → SoundLead h lead → IsProperLead lead → Starts v
+      → run (at_items h items s) (spell_lead lead v) ≡ run (need (in_items h items lead ∷ s)) v
+  lead_back h items plain s v l p g = enter_items h items s v g
+  lead_back h items reference s v l p g = reference_on h items s v l
+  lead_back h items spread s v l p g = spread_on h items s v l
+  lead_back h items (keyed k) s v l p g =
+      enter_items h items s (spell k (punct mark.DoubleArrow ∷ v)) (starts k (punct mark.DoubleArrow ∷ v))
+      ∙ read_back k (in_items h items plain ∷ s) (punct mark.DoubleArrow ∷ v) p.1 (omega arith) (follows_shut (punct mark.DoubleArrow) (in_items h items plain ∷ s) k v refl (λ a. p.0.0) p.0.1)
+      ∙ ap (λ m. run m (punct mark.DoubleArrow ∷ v)) (after_low k (in_items h items plain ∷ s) (omega arith))
+      ∙ key_on h items k s v (keyed_array h k (inl l))
+      ∙ enter_value h items k s v g
+  lead_back h items (keyed_reference k) s v l p g =
+      enter_items h items s (spell k (punct mark.DoubleArrow ∷ punct mark.Ampersand ∷ v)) (starts k (punct mark.DoubleArrow ∷ punct mark.Ampersand ∷ v))
+      ∙ read_back k (in_items h items plain ∷ s) (punct mark.DoubleArrow ∷ punct mark.Ampersand ∷ v) p.1 (omega arith)
+      (follows_shut (punct mark.DoubleArrow) (in_items h items plain ∷ s) k (punct mark.Ampersand ∷ v) refl (λ a. p.0.0) p.0.1)
+      ∙ ap (λ m. run m (punct mark.DoubleArrow ∷ punct mark.Ampersand ∷ v)) (after_low k (in_items h items plain ∷ s) (omega arith))
+      ∙ key_on h items k s (punct mark.Ampersand ∷ v) (keyed_array h k (inr l))
+
+  pieces_back : (pieces : Pieces Nothing) (s : Stack) (w : List Symbol) → AreProperPieces pieces → run (at_template no_piece s) (spell_pieces pieces w) ≡ run (at_template pieces s) w
+  pieces_back no_piece s w p = refl
+  pieces_back (bytes pieces text) s w p = pieces_back pieces s (symbol.piece text ∷ w) p
+  pieces_back (value pieces e) s w p =
+      pieces_back pieces s (symbol.part ∷ spell e (symbol.end_part ∷ w)) p.0
+      ∙ read_back e (in_part pieces ∷ s) (symbol.end_part ∷ w) p.2 (omega arith) (follows_shut symbol.end_part (in_part pieces ∷ s) e w refl (λ a. cc) p.1)
+      ∙ ap (λ m. run m (symbol.end_part ∷ w)) (after_low e (in_part pieces ∷ s) (omega arith))
+
+  class_back : (class : Class Nothing) (s : Stack) (w : List Symbol) → IsProperClass class → run (at_new s) (spell_class class w) ≡ run (at_class class s) w
+  class_back (class_name spot text) s w p = refl
+  class_back (class_static spot) s w p = refl
+  class_back (class_found steps) s w p = steps_back steps s w p
+
+  steps_back : (steps : Steps Nothing) (s : Stack) (w : List Symbol) → AreProperSteps steps → run (at_new s) (spell_steps steps w) ≡ run (at_class (class_found steps) s) w
+  steps_back (from spot text) s w p = refl
+  steps_back (step_property steps m) s w p = steps_back steps s (punct mark.Arrow ∷ member_symbol m ∷ w) p.0 ∙ property_on m steps s w p.1
+  steps_back (step_index steps e) s w p =
+      steps_back steps s (punct mark.LeftBracket ∷ spell e (punct mark.RightBracket ∷ w)) p.0
+      ∙ read_back e (in_step steps ∷ s) (punct mark.RightBracket ∷ w) p.1 (omega arith) (follows_bracket (in_step steps) s e w tt)
+      ∙ ap (λ m. run m (punct mark.RightBracket ∷ w)) (after_low e (in_step steps ∷ s) (omega arith))

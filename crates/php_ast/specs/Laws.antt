@@ -1,0 +1,80 @@
+-- What is proved of the grammar of expressions, for every list of symbols and every tree.
+use Rattle.std.specs.Prelude.{◌≡◌, ℕ, true, false, List, [], ◌∷◌, ◌++◌, map}
+use Rattle.php_lex.specs.Token.{Token}
+use Rattle.php_ast.specs.Symbol.{Symbol, symbol}
+use Rattle.php_ast.specs.Tree.{Tree}
+use Rattle.php_ast.specs.Spelling.{spell}
+use Rattle.php_ast.specs.Proper.{Proper, takes_arrow, ends_bare}
+use Rattle.php_ast.specs.View.{Note}
+use Rattle.php_ast.specs.Placed.{form_of, IsPlaced}
+use Rattle.php_ast.specs.Sign.{Next, other, next, weight_of, is_arrow, ends_yield}
+use Rattle.php_ast.specs.Nesting.{nests}
+use Rattle.php_ast.specs.Machine.{Form, Outcome, need, read}
+use Rattle.php_ast.specs.Depth.{trace}
+
+-- ---- what symbols spell and begin
+
+abbrev pub Spells : Form → List Symbol → Type 0
+Spells e w = Proper e × (spell e [] ≡ w)
+
+-- the symbols begin an expression
+pub record IsBegun (w : List Symbol) : Type 0 where
+  pub tree : Form
+  pub rest : List Symbol
+  pub spelled : Spells tree (w ++ rest)
+
+-- ---- what a reading has read begins the spelling of a proper tree
+
+-- The tree is proper, and its spelling is what was read and what it lacks; what was read and what is left
+-- are all the symbols.
+pub record BeginsWith (w : List Symbol) (o : Outcome) : Type 0 where
+  pub proper : Proper o.tree
+  pub done : List Symbol
+  pub whole : w ≡ done ++ o.left
+  pub spelled : spell o.tree [] ≡ done ++ o.lacked
+
+abbrev pub ReadingBegins : Type 0
+ReadingBegins = (w : List Symbol) → BeginsWith w (read w)
+
+-- ---- the spelling of a proper tree is read back
+
+-- what a list begins with
+abbrev pub head_next : List Symbol → Next
+head_next [] = other
+head_next (t ∷ w) = next t
+
+-- An expression ends in front of these symbols: the first one is no operator and no suffix, belongs to no
+-- `yield` at its end, and may stand behind a `yield` alone where one is there.
+pub record EndsBefore (e : Form) (v : List Symbol) : Type 0 where
+  pub draws_nothing : weight_of (head_next v) ≡ 0
+  pub no_arrow : is_arrow (head_next v) ≡ true → takes_arrow e ≡ false
+  pub after_bare : ends_bare e ≡ true → ends_yield (head_next v) ≡ true
+
+abbrev pub ReadsBack : Type 0
+ReadsBack = (e : Form) (v : List Symbol) → Proper e → EndsBefore e v → read (spell e v) ≡ record { tree = e; lacked = []; left = v }
+
+-- ---- one tree
+
+abbrev pub OneForm : Type 0
+OneForm = (a b : Form) (w : List Symbol) → Spells a w → Spells b w → a ≡ b
+
+-- A tree is spelled by tokens, the first of which is at a place among all of them, where its form is and
+-- its notes are about them.
+pub record IsSpelled (tokens : List Token) (at : ℕ) (e : Tree Note) (w : List Token) : Type 0 where
+  pub spelled : Spells (form_of e) (map symbol w)
+  pub placed : IsPlaced tokens at e
+
+abbrev pub OneTree : Type 0
+OneTree = (tokens : List Token) (at : ℕ) (w : List Token) (a b : Tree Note) → IsSpelled tokens at a w → IsSpelled tokens at b w → a ≡ b
+
+-- ---- nesting
+
+-- The nesting that a reading counts at each symbol is that of the tree.
+abbrev pub NestingAgrees : Type 0
+NestingAgrees = (e : Form) (v : List Symbol) → Proper e → EndsBefore e v → trace (need []) (spell e v) ≡ nests e 0 []
+
+-- ---- the exact place
+
+-- The symbols read begin an expression, and no longer do so with one more.
+abbrev pub StopsExactly : Type 0
+StopsExactly = (w done : List Symbol) (t : Symbol) (v : List Symbol) → w ≡ done ++ t ∷ v → (read w).left ≡ t ∷ v → IsBegun (done ++ t ∷ []) → ⊥

@@ -1,0 +1,40 @@
+// Laws of the grammar. Each is the contract of a function that does nothing: it says what holds of the
+// definitions in specs/, for every tree and every list of symbols.
+
+ghost use Rattle.php_ast.specs.Laws.{ReadingBegins, ReadsBack, OneForm, OneTree, NestingAgrees, StopsExactly};
+ghost use Rattle.php_ast.specs.Rules.{RulesAgree};
+
+/// What a reading has read begins the spelling of a proper tree.
+pub fn reading_begins()
+    ensures { ReadingBegins }
+{}
+
+/// The spelling of a proper tree is read back to that tree.
+pub fn reads_back()
+    ensures { ReadsBack }
+{}
+
+/// A list of symbols spells at most one expression.
+pub fn one_form()
+    ensures { OneForm }
+{}
+
+/// Tokens spell at most one tree, with its notes.
+pub fn one_tree()
+    ensures { OneTree }
+{}
+
+/// The rules of powers, said of lists of operators, are what the numbers of `Proper` say.
+pub fn rules_agree()
+    ensures { RulesAgree }
+{}
+
+/// The nesting that a reading counts is that of the tree.
+pub fn nesting_agrees()
+    ensures { NestingAgrees }
+{}
+
+/// Where a reading stops, the symbols begin no expression with one more.
+pub fn stops_exactly()
+    ensures { StopsExactly }
+{}

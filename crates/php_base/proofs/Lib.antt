@@ -1,0 +1,3 @@
+pub mod Fails
+pub mod Growth
+pub mod Lookup

@@ -1,0 +1,4 @@
+pub mod Spelling
+pub mod Machine
+pub mod Answers
+pub mod Examples

@@ -1,0 +1,4 @@
+pub mod Scalars
+pub mod Evaluation
+pub mod Running
+pub mod Walking

@@ -1,0 +1,61 @@
+-- What a walk over statements or parts leaves of a sink, held against what is to be written.
+use Rattle.std.specs.Prelude.{◌≡◌, ℕ, ◌≤◌, Bool, true, false, List, [], ◌++◌, Option}
+use Rattle.php_base.specs.Counts.{Rose}
+use Rattle.php_base.specs.Written.{GrewBy}
+use Rattle.php_first_run.specs.Running.{Effect, Outcome, Ending, completed, overflowed, cut_off}
+use Rattle.php_first_run.specs.declared.value.Value.{Value}
+use Rattle.php_first_run.specs.declared.walking.Stop.{Stop}
+use Rattle.php_first_run.specs.declared.walking.Stop.TheVariants.{Done, Overflow, Cut, SinkFault}
+use Rattle.php_first_run.specs.declared.walking.Step as Step
+use Rattle.php_first_run.specs.declared.walking.Step.TheVariants as step
+
+-- a sink at one moment: what it tells of what was written, and its count of faults
+pub record Stream : Type 0 where
+  pub written : Option (List ℕ)
+  pub faults : ℕ
+
+-- the bytes begin with these
+abbrev pub IsFront : List ℕ → List ℕ → Type 0
+IsFront front bytes = (rest : List ℕ) × (front ++ rest ≡ bytes)
+
+-- all of the bytes went out, and the sink did not fail
+pub record AllWritten (bytes : List ℕ) (old new : Stream) : Type 0 where
+  pub grew : GrewBy old.written new.written bytes
+  pub no_fault : new.faults ≡ old.faults
+
+-- the sink failed, and bytes from the front of those went out
+pub record BrokenOff (bytes : List ℕ) (old new : Stream) : Type 0 where
+  pub fault : Rose old.faults new.faults
+  pub front : List ℕ
+  pub is_front : IsFront front bytes
+  pub grew : GrewBy old.written new.written front
+
+-- an assignment did what its effect says, and wrote nothing
+abbrev pub Assigns : Effect → Step.Step → List Value → Type 0
+Assigns effect step.Done values = (effect.overflows ≡ false) × (values ≡ effect.values) × (effect.bytes ≡ [])
+Assigns effect step.Overflow values = (effect.overflows ≡ true) × (effect.bytes ≡ [])
+Assigns effect step.SinkFault values = ⊥
+
+-- a statement did what its effect says, or the sink failed in it
+abbrev pub Executes : Effect → Step.Step → List Value → Stream → Stream → Type 0
+Executes effect step.Done values old new = (effect.overflows ≡ false) × (values ≡ effect.values) × AllWritten effect.bytes old new
+Executes effect step.Overflow values old new = (effect.overflows ≡ true) × AllWritten effect.bytes old new
+Executes effect step.SinkFault values old new = BrokenOff effect.bytes old new
+
+-- the run came to its end, and all of its output went out
+pub record Ends (whole : Outcome) (ending : Ending) (ticks : ℕ) (old new : Stream) : Type 0 where
+  pub ended : whole.ending ≡ ending
+  pub ticks_taken : whole.ticks ≡ ticks
+  pub output : AllWritten whole.output old new
+
+-- the sink failed on the way
+pub record Breaks (whole : Outcome) (ticks : ℕ) (old new : Stream) : Type 0 where
+  pub ticks_taken : ticks ≤ whole.ticks
+  pub output : BrokenOff whole.output old new
+
+-- The run went as the outcome says, or the sink failed on the way.
+abbrev pub Walks : Outcome → Stop → ℕ → Stream → Stream → Type 0
+Walks whole Done ticks old new = Ends whole completed ticks old new
+Walks whole (Overflow line) ticks old new = Ends whole (overflowed line) ticks old new
+Walks whole Cut ticks old new = Ends whole cut_off ticks old new
+Walks whole SinkFault ticks old new = Breaks whole ticks old new

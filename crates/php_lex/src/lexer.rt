@@ -1,0 +1,98 @@
+// The loop that cuts a script's bytes piece by piece.
+
+ghost use Rattle.std.specs.Prelude.{◌≡◌, ◌<◌, ◌≤◌, ◌+◌, ◌^◌, length, OnOk};
+ghost use Rattle.php_lex.specs.Entry.{AllWithin};
+ghost use Rattle.php_lex.specs.Modes.{changed};
+ghost use Rattle.php_lex.specs.PieceKept.{change_kept};
+ghost use Rattle.php_lex.specs.Reading as spec;
+ghost use Rattle.php_lex.specs.Stepping.{Steps};
+
+use crate::fail::LexFail;
+use crate::modes::{Mode, Modes};
+use crate::pieces::{Change, next_piece};
+use crate::tokens::{Builder, Tokens, put};
+use php_base::NoMemory;
+use std::alloc::Global;
+
+fn make_change<'a>(modes: &mut Modes<'a>, change: Change<'a>) -> Result<(), NoMemory>
+    ensures { OnOk result (modes.new ≡ changed (change_kept change.entry) modes.old) }
+{
+    match change {
+        Change::Stay => Ok(()),
+        Change::Enter(mode) => modes.enter(mode),
+        Change::Leave => {
+            modes.leave();
+            Ok(())
+        }
+        Change::Turn(mode) => {
+            modes.leave();
+            modes.enter(mode)
+        }
+    }
+}
+
+// The line of the byte behind these.
+fn lines_after(line: u32, bytes: &[u8]) -> u32
+    requires { line + length bytes.now < 2 ^ 32 }
+    ensures value { result ≡ spec.lines_after line bytes.now }
+    ensures within { result ≤ line + length bytes.now }
+{
+    let mut after = line;
+    for b in bytes {
+        if *b == b'\n' {
+            after += 1;
+        }
+    }
+    after
+}
+
+// Cuts the piece at the front, and answers its length.
+fn step<'a>(
+    modes: &mut Modes<'a>,
+    line: u32,
+    text: &'a [u8],
+    out: &mut Builder<'a>,
+) -> Result<usize, LexFail>
+    requires some { 0 < length text.now }
+    requires kept { AllWithin (length out.old.decoded.items) out.old.entries.items }
+    ensures { Steps line text.now modes.old modes.new out.old out.new result }
+{
+    let piece = match next_piece(modes.mode(), line, text) {
+        Ok(piece) => piece,
+        Err(fault) => return Err(fault),
+    };
+    let Ok(()) = put(piece, line, out) else {
+        return Err(LexFail::NoMemory);
+    };
+    let Ok(()) = make_change(modes, piece.change) else {
+        return Err(LexFail::NoMemory);
+    };
+    Ok(piece.len)
+}
+
+/// Cuts a script into tokens, or answers the first fault in it.
+pub fn lex(alloc: Global, src: &[u8]) -> Result<Tokens, LexFail>
+    requires { length src.now ≤ 1048576 }
+    ensures { spec.Lexes result (spec.tokens src.now) }
+{
+    let mut out = Builder::new(alloc);
+    let mut modes = Modes::new(alloc);
+    let Ok(()) = modes.enter(Mode::Outside) else {
+        return Err(LexFail::NoMemory);
+    };
+    let mut line = 1;
+    let mut at = 0;
+    while at < src.len() {
+        let rest = &src[at..];
+        let len = match step(&mut modes, line, rest, &mut out) {
+            Ok(len) => len,
+            Err(fault) => return Err(fault),
+        };
+        line = lines_after(line, &rest[..len]);
+        at += len;
+    }
+    match modes.unclosed() {
+        Some(begun) => Err(LexFail::Unclosed(begun)),
+        None => Ok(out.finish()),
+    }
+}

@@ -1,0 +1,22 @@
+// Cuts a script's bytes into tokens, or names the first fault.
+#![tactic(auto)]
+
+mod bytes;
+mod comments;
+mod escapes;
+mod fail;
+mod heredocs;
+mod kind;
+mod lexer;
+mod modes;
+mod numbers;
+mod pieces;
+mod punctuators;
+mod search;
+mod tokens;
+mod words;
+
+pub use fail::LexFail;
+pub use kind::{Cast, Keyword, Punct, TokenKind};
+pub use lexer::lex;
+pub use tokens::Tokens;

@@ -1,0 +1,214 @@
+// Names, keywords and the words of casts.
+
+ghost use Rattle.std.specs.Prelude.{◌≡◌, ◌<◌, ◌≤◌, ◌+◌, length, slice_index, true, map, IfSome};
+ghost use Rattle.std.specs.Str.{str_eq_ignore_ascii_case};
+ghost use Rattle.php_lex.specs.Bytes.{is_name_start};
+ghost use Rattle.php_lex.specs.Words as spec;
+
+use crate::bytes::{Class, byte, name_len, run};
+use crate::kind::{Cast, Keyword, TokenKind};
+
+const KEYWORDS: [(&[u8], Keyword); 75] = [
+    (b"abstract", Keyword::Abstract),
+    (b"and", Keyword::And),
+    (b"array", Keyword::Array),
+    (b"as", Keyword::As),
+    (b"break", Keyword::Break),
+    (b"callable", Keyword::Callable),
+    (b"case", Keyword::Case),
+    (b"catch", Keyword::Catch),
+    (b"class", Keyword::Class),
+    (b"clone", Keyword::Clone),
+    (b"const", Keyword::Const),
+    (b"continue", Keyword::Continue),
+    (b"declare", Keyword::Declare),
+    (b"default", Keyword::Default),
+    (b"do", Keyword::Do),
+    (b"echo", Keyword::Echo),
+    (b"else", Keyword::Else),
+    (b"elseif", Keyword::ElseIf),
+    (b"empty", Keyword::Empty),
+    (b"endfor", Keyword::EndFor),
+    (b"endforeach", Keyword::EndForeach),
+    (b"endif", Keyword::EndIf),
+    (b"endswitch", Keyword::EndSwitch),
+    (b"endwhile", Keyword::EndWhile),
+    (b"enddeclare", Keyword::EndDeclare),
+    (b"eval", Keyword::Eval),
+    (b"die", Keyword::Exit),
+    (b"exit", Keyword::Exit),
+    (b"extends", Keyword::Extends),
+    (b"final", Keyword::Final),
+    (b"finally", Keyword::Finally),
+    (b"for", Keyword::For),
+    (b"foreach", Keyword::Foreach),
+    (b"function", Keyword::Function),
+    (b"global", Keyword::Global),
+    (b"goto", Keyword::Goto),
+    (b"if", Keyword::If),
+    (b"implements", Keyword::Implements),
+    (b"include", Keyword::Include),
+    (b"include_once", Keyword::IncludeOnce),
+    (b"instanceof", Keyword::InstanceOf),
+    (b"insteadof", Keyword::InsteadOf),
+    (b"interface", Keyword::Interface),
+    (b"isset", Keyword::IsSet),
+    (b"list", Keyword::List),
+    (b"namespace", Keyword::Namespace),
+    (b"new", Keyword::New),
+    (b"or", Keyword::Or),
+    (b"print", Keyword::Print),
+    (b"private", Keyword::Private),
+    (b"protected", Keyword::Protected),
+    (b"public", Keyword::Public),
+    (b"require", Keyword::Require),
+    (b"require_once", Keyword::RequireOnce),
+    (b"return", Keyword::Return),
+    (b"static", Keyword::Static),
+    (b"switch", Keyword::Switch),
+    (b"throw", Keyword::Throw),
+    (b"trait", Keyword::Trait),
+    (b"try", Keyword::Try),
+    (b"unset", Keyword::Unset),
+    (b"use", Keyword::Use),
+    (b"var", Keyword::Var),
+    (b"while", Keyword::While),
+    (b"xor", Keyword::Xor),
+    (b"yield", Keyword::Yield),
+    (b"__halt_compiler", Keyword::HaltCompiler),
+    (b"__CLASS__", Keyword::ClassName),
+    (b"__FUNCTION__", Keyword::FunctionName),
+    (b"__LINE__", Keyword::LineNumber),
+    (b"__METHOD__", Keyword::MethodName),
+    (b"__FILE__", Keyword::FileName),
+    (b"__DIR__", Keyword::DirectoryName),
+    (b"__NAMESPACE__", Keyword::NamespaceName),
+    (b"__TRAIT__", Keyword::TraitName),
+];
+
+const CAST_WORDS: [(&[u8], Cast); 12] = [
+    (b"int", Cast::Int),
+    (b"integer", Cast::Int),
+    (b"bool", Cast::Bool),
+    (b"boolean", Cast::Bool),
+    (b"string", Cast::Str),
+    (b"array", Cast::Arr),
+    (b"float", Cast::Other),
+    (b"double", Cast::Other),
+    (b"real", Cast::Other),
+    (b"object", Cast::Other),
+    (b"unset", Cast::Other),
+    (b"binary", Cast::Other),
+];
+
+fn is_word(word: &[u8], expected: &[u8]) -> bool
+    ensures { result ≡ str_eq_ignore_ascii_case expected.now word.now }
+{
+    expected.eq_ignore_ascii_case(word)
+}
+
+fn keyword_in(mut table: &[(&[u8], Keyword)], word: &[u8]) -> Option<Keyword>
+    ensures { result ≡ spec.look_up (map (λ row. (row.0.now, row.1)) table.entry.now) word.now }
+{
+    while let [row, rest @ ..] = table {
+        if is_word(word, row.0) {
+            return Some(row.1);
+        }
+        table = rest;
+    }
+    None
+}
+
+fn cast_in(mut table: &[(&[u8], Cast)], word: &[u8]) -> Option<Cast>
+    ensures { result ≡ spec.look_up (map (λ row. (row.0.now, row.1)) table.entry.now) word.now }
+{
+    while let [row, rest @ ..] = table {
+        if is_word(word, row.0) {
+            return Some(row.1);
+        }
+        table = rest;
+    }
+    None
+}
+
+fn keyword(word: &[u8]) -> Option<Keyword>
+    ensures { result ≡ spec.look_up spec.keywords word.now }
+{
+    keyword_in(&KEYWORDS, word)
+}
+
+fn cast_word(word: &[u8]) -> Option<Cast>
+    ensures { result ≡ spec.look_up spec.cast_words word.now }
+{
+    cast_in(&CAST_WORDS, word)
+}
+
+/// A keyword in any letter case, or else a name.
+#[tactic(auto, unfolding(crate::specs::Words::word_kind))]
+pub(crate) fn word_kind(word: &[u8]) -> TokenKind
+    ensures { result ≡ spec.word_kind word.now }
+{
+    match keyword(word) {
+        Some(keyword) => TokenKind::Keyword(keyword),
+        None => TokenKind::Name,
+    }
+}
+
+// A whole word at a place, in any letter case.
+#[tactic(auto, unfolding(crate::specs::Words::is_word_at))]
+fn is_word_at(text: &[u8], at: usize, expected: &[u8]) -> bool
+    requires { at ≤ length text.now }
+    ensures { result ≡ spec.is_word_at text.now at expected.now }
+{
+    is_word(&text[at..at + name_len(text, at)], expected)
+}
+
+// The length of `yield`, blanks and the whole word `from` at the front, or 0.
+#[tactic(auto, unfolding(crate::specs::Words::yield_from_len))]
+fn yield_from_len(text: &[u8]) -> usize
+    ensures value { result ≡ spec.yield_from_len text.now }
+    ensures within { result ≤ length text.now }
+{
+    if !is_word_at(text, 0, b"yield") {
+        return 0;
+    }
+    let second = 5 + run(Class::Blank, text, 5);
+    if 5 < second && second <= text.len() && is_word_at(text, second, b"from") {
+        second + name_len(text, second)
+    } else {
+        0
+    }
+}
+
+/// The kind and the length of the word at the front.
+#[tactic(auto, unfolding(crate::specs::Words::word))]
+pub(crate) fn word(text: &[u8]) -> (TokenKind, usize)
+    requires { is_name_start (slice_index text.now 0) ≡ true }
+    ensures value { result ≡ spec.word text.now }
+    ensures within { (0 < result.1) × (result.1 ≤ length text.now) }
+{
+    let yield_from = yield_from_len(text);
+    if yield_from > 0 {
+        return (TokenKind::Keyword(Keyword::YieldFrom), yield_from);
+    }
+    let len = name_len(text, 0);
+    (word_kind(&text[..len]), len)
+}
+
+/// The cast at the front, and its length.
+#[tactic(auto, unfolding(crate::specs::Words::cast))]
+pub(crate) fn cast(text: &[u8]) -> Option<(Cast, usize)>
+    requires { 0 < length text.now }
+    ensures value { result ≡ spec.cast text.now }
+    ensures within { IfSome result (λ found. (0 < found.1) × (found.1 ≤ length text.now)) }
+{
+    let start = 1 + run(Class::Gap, text, 1);
+    let end = start + name_len(text, start);
+    let cast = cast_word(&text[start..end])?;
+    let close = end + run(Class::Gap, text, end);
+    if byte(text, close) == b')' {
+        Some((cast, close + 1))
+    } else {
+        None
+    }
+}

@@ -1,0 +1,4 @@
+<?php
+$x=1;
+echo $x;
+echo 2;
