@@ -1,5 +1,5 @@
 -- Maps of keys, and what an index finds.
-use Rattle.std.proofs.Common.{◌≡◌, ◌<◌, ◌≤◌, ◌⊎◌, inl, inr, ℕ, zero, suc, ◌+◌, ◌-◌, List, [], ◌∷◌, ◌++◌, length, take, drop, refl, sym, ◌∙◌, ap, subst, arith, Some, None, add-one}
+use Rattle.std.proofs.Common.{◌≡◌, ◌≤◌, ◌⊎◌, inl, inr, ℕ, ◌+◌, ◌-◌, List, [], ◌∷◌, ◌++◌, length, take, refl, sym, ◌∙◌, ap, subst, arith, Some, None, add-one}
 use Rattle.std.specs.Prelude.{Bool, true, false, cond, Option, option_map, is_some, IsSome, nat_le, pos, negsuc, Result, Ok, Err, OnOk, OnErr, find}
 use Rattle.std.specs.Map.{lookup}
 use Rattle.std.proofs.lemmas.Bool.{cases_Bool, cases_order, false≢true, leb-true}
@@ -146,31 +146,31 @@ module _ {T : Type 0} where
   pub IsIndexed-vacated : (old new : KeyIndex) (k : Key) (i : ℕ) (ss : List (Slot T)) → ForgetsKey old new k → AreKeysDistinct (entries_in ss) → place_of k ss ≡ Some i → IsIndexed old ss → IsIndexed new (vacated i ss)
   IsIndexed-vacated (Packed first) new k i ss forgets distinct is h =
       subst (λ (index : KeyIndex). IsIndexed index (vacated i ss)) (sym forgets) (λ q.
-        elim (cases_Bool (key_eq k q)) [
-          | inl same ↦ (
-              let own : candidate (Packed first) q ≡ Some i =
-                  live_place-some (candidate (Packed first) q) i ss (h q ∙ ap (λ (x : Key). place_of x ss) (sym (key_eq-true k q same)) ∙ is) in
-              ap (λ (o : Option ℕ). live_place o (vacated i ss)) own
-              ∙ ap (λ (o : Option (Stored T)). cond (is_some o) (Some i) None) (stored_at-vacated i i ss).0
-              ∙ sym (place_of-vacated k ss i distinct is q ∙ ap (λ (b : Bool). cond b None (place_of q ss)) same))
-          | inr apart ↦ (
-              let other : candidate (Packed first) q ≡ Some i → ⊥ = λ (own : candidate (Packed first) q ≡ Some i).
-                  let there = place_of-stored k ss i is in
-                  let at_q : place_of q ss ≡ Some i =
-                      sym (h q) ∙ ap (λ (o : Option ℕ). live_place o ss) own ∙ ap (λ (o : Option (Stored T)). cond (is_some o) (Some i) None) there.1 in
-                  let there_q = place_of-stored q ss i at_q in
-                  let same_entry : Some there.0 ≡ Some there_q.0 = sym there.1 ∙ there_q.1 in
-                  let same_key : k ≡ q = sym there.2 ∙ (let e : there.0 ≡ there_q.0 = cc in ap (λ (x : Stored T). x.key) e) ∙ there_q.2 in
-                  false≢true (sym apart ∙ ap (key_eq k) (sym same_key) ∙ key_eq-self k) in
-              live_place-vacated (candidate (Packed first) q) i ss other
-              ∙ h q
-              ∙ sym (place_of-vacated k ss i distinct is q ∙ ap (λ (b : Bool). cond b None (place_of q ss)) apart))
-        ])
+      elim (cases_Bool (key_eq k q)) [
+        | inl same ↦ (
+            let own : candidate (Packed first) q ≡ Some i =
+            live_place-some (candidate (Packed first) q) i ss (h q ∙ ap (λ (x : Key). place_of x ss) (sym (key_eq-true k q same)) ∙ is) in
+            ap (λ (o : Option ℕ). live_place o (vacated i ss)) own
+            ∙ ap (λ (o : Option (Stored T)). cond (is_some o) (Some i) None) (stored_at-vacated i i ss).0
+            ∙ sym (place_of-vacated k ss i distinct is q ∙ ap (λ (b : Bool). cond b None (place_of q ss)) same))
+        | inr apart ↦ (
+            let other : candidate (Packed first) q ≡ Some i → ⊥ = λ (own : candidate (Packed first) q ≡ Some i).
+            let there = place_of-stored k ss i is in
+            let at_q : place_of q ss ≡ Some i =
+            sym (h q) ∙ ap (λ (o : Option ℕ). live_place o ss) own ∙ ap (λ (o : Option (Stored T)). cond (is_some o) (Some i) None) there.1 in
+            let there_q = place_of-stored q ss i at_q in
+            let same_entry : Some there.0 ≡ Some there_q.0 = sym there.1 ∙ there_q.1 in
+            let same_key : k ≡ q = sym there.2 ∙ (let e : there.0 ≡ there_q.0 = cc in ap (λ (x : Stored T). x.key) e) ∙ there_q.2 in
+            false≢true (sym apart ∙ ap (key_eq k) (sym same_key) ∙ key_eq-self k) in
+            live_place-vacated (candidate (Packed first) q) i ss other
+            ∙ h q
+            ∙ sym (place_of-vacated k ss i distinct is q ∙ ap (λ (b : Bool). cond b None (place_of q ss)) apart))
+      ])
   IsIndexed-vacated (Hashed places) new k i ss forgets distinct is h =
       subst (λ (index : KeyIndex). IsIndexed index (vacated i ss)) (sym forgets.1) (λ q.
-        forgets.2 q
-        ∙ ap (cond (key_eq k q) None) (h q)
-        ∙ sym (place_of-vacated k ss i distinct is q))
+      forgets.2 q
+      ∙ ap (cond (key_eq k q) None) (h q)
+      ∙ sym (place_of-vacated k ss i distinct is q))
 
   vacated-last : (ss : List (Slot T)) (s : Slot T) → vacated (length ss) (ss ++ s ∷ []) ≡ ss ++ Hole (serial_of s) ∷ []
   vacated-last [] s = refl
@@ -207,8 +207,8 @@ module _ {T : Type 0} where
             ∙ sym (place_of-push q ss e none ∙ ap (λ (b : Bool). cond b (Some (length ss)) (place_of q ss)) same)
         | inr apart ↦ (
             let other : candidate (Packed first) q ≡ Some (length ss) → ⊥ = λ (at : candidate (Packed first) q ≡ Some (length ss)).
-                let equal : e.key ≡ q = packed-key first (length ss) e.key own ∙ sym (packed-key first (length ss) q at) in
-                false≢true (sym apart ∙ ap (key_eq e.key) (sym equal) ∙ key_eq-self e.key) in
+            let equal : e.key ≡ q = packed-key first (length ss) e.key own ∙ sym (packed-key first (length ss) q at) in
+            false≢true (sym apart ∙ ap (key_eq e.key) (sym equal) ∙ key_eq-self e.key) in
             live_place-push (candidate (Packed first) q) ss (Live e) other
             ∙ h q
             ∙ sym (place_of-push q ss e none ∙ ap (λ (b : Bool). cond b (Some (length ss)) (place_of q ss)) apart))
@@ -232,10 +232,10 @@ module _ {T : Type 0} where
   pub pushed_packed : (first new_first n : ℕ) (ss : List (Slot T)) (k : Key) → IsIndexed (Packed first) ss → place_of k ss ≡ None → candidate (Packed new_first) k ≡ Some n → n ≡ length ss → (n ≡ 0) ⊎ (new_first ≡ first) → (e : Stored T) → e.key ≡ k → IsIndexed (Packed new_first) (ss ++ Live e ∷ [])
   pushed_packed first new_first n ss k h none own len kept e is =
       IsIndexed-packed_push new_first ss e (ap (λ (q : Key). place_of q ss) is ∙ none) (ap (candidate (Packed new_first)) is ∙ own ∙ ap Some len) (
-        elim kept [
-          | inl empty ↦ (let no_slots : ss ≡ [] = no_items ss (sym len ∙ empty) in subst (λ (xs : List (Slot T)). IsIndexed (Packed new_first) xs) (sym no_slots) (IsIndexed-no_slots T new_first))
-          | inr same ↦ subst (λ (f : ℕ). IsIndexed (Packed f) ss) (sym same) h
-        ])
+      elim kept [
+        | inl empty ↦ (let no_slots : ss ≡ [] = no_items ss (sym len ∙ empty) in subst (λ (xs : List (Slot T)). IsIndexed (Packed new_first) xs) (sym no_slots) (IsIndexed-no_slots T new_first))
+        | inr same ↦ subst (λ (f : ℕ). IsIndexed (Packed f) ss) (sym same) h
+      ])
     where
       no_items : (xs : List (Slot T)) → length xs ≡ 0 → xs ≡ []
       no_items [] h = refl

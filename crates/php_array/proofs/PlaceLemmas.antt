@@ -1,6 +1,6 @@
 -- Slots by their places.
-use Rattle.std.proofs.Common.{◌≡◌, ◌<◌, ◌≤◌, ℕ, zero, suc, ◌+◌, List, [], ◌∷◌, length, refl, sym, ◌∙◌, ap, subst, arith, Some, None}
-use Rattle.std.specs.Prelude.{Option, option_map, slice_index_or, slice_set, slice_get, IsSome, is_some, true, false, option_copied}
+use Rattle.std.proofs.Common.{◌≡◌, ◌<◌, ◌≤◌, ℕ, zero, suc, List, [], ◌∷◌, length, refl, sym, ◌∙◌, ap, arith, Some, None}
+use Rattle.std.specs.Prelude.{Option, slice_index_or, slice_set, IsSome, is_some, true, false, option_copied}
 use Rattle.std.specs.Borrow.{Bor}
 use Rattle.php_array.specs.Slots.{serial_of, stored_in, stored_at, serial_at, vacated, revalued, with_value_at}
 use Rattle.php_array.specs.declared.slot.Slot.{Slot}

@@ -1,14 +1,14 @@
 -- What slots hold, before and after a change of one of them.
-use Rattle.std.proofs.Common.{◌≡◌, ◌<◌, ◌≤◌, ◌⊎◌, inl, inr, ℕ, zero, suc, ◌+◌, List, [], ◌∷◌, ◌++◌, length, take, drop, refl, sym, ◌∙◌, ap, subst, arith, Some, None, append-nil}
-use Rattle.std.specs.Prelude.{Bool, true, false, cond, Option, option_map, is_some, find, IsSome, option_to_list}
-use Rattle.std.proofs.lemmas.Bool.{cases_Bool, false≢true}
+use Rattle.std.proofs.Common.{◌≡◌, ◌<◌, ◌≤◌, inl, inr, ℕ, zero, suc, ◌+◌, List, [], ◌∷◌, ◌++◌, length, take, drop, refl, sym, ◌∙◌, ap, subst, arith, Some, None, append-nil}
+use Rattle.std.specs.Prelude.{Bool, true, false, cond, Option, option_map, is_some, find, option_to_list}
+use Rattle.std.proofs.lemmas.Bool.{cases_Bool}
 use Rattle.php_value.specs.declared.key.Key.{Key}
 use Rattle.php_entries.specs.Keys.{key_eq}
 use Rattle.php_entries.specs.Listing.{Entry}
 use Rattle.php_entries.specs.Changes.{with_value, without_key}
 use Rattle.php_entries.specs.Soundness.{HasNoKey, AreKeysDistinct}
 use Rattle.php_entries.proofs.KeyLemmas.{key_eq-true, key_eq-self, key_eq-sym_false}
-use Rattle.php_array.specs.Slots.{serial_of, stored_in, stored_at, serial_at, entry_of, entries_in, place_of, live_place, vacated, revalued, with_value_at, DoSerialsRise, AreHoles, HoldsSame}
+use Rattle.php_array.specs.Slots.{serial_of, stored_in, stored_at, serial_at, entry_of, entries_in, place_of, vacated, revalued, with_value_at, DoSerialsRise, AreHoles, HoldsSame}
 use Rattle.php_array.specs.declared.slot.Slot.{Slot}
 use Rattle.php_array.specs.declared.slot.Slot.TheVariants.{Hole, Live}
 use Rattle.php_array.specs.declared.slot.Stored.{Stored}
@@ -476,3 +476,10 @@ module _ {T : Type 0} where
       ap (place_of q) split.0
       ∙ place_of-push q (take i ss) e before
       ∙ ap (λ n. cond (key_eq e.key q) (Some n) (place_of q (take i ss))) split.1
+
+  -- the serials behind a place are greater than the one there
+  pub serial_at-above : (from : ℕ) (ss : List (Slot T)) (to i j : ℕ) → DoSerialsRise from ss to → i < j → j < length ss → serial_at i ss < serial_at j ss
+  serial_at-above from [] to i j h lt within = absurd (omega arith)
+  serial_at-above from (s ∷ ss) to i zero h lt within = absurd (omega arith)
+  serial_at-above from (s ∷ ss) to zero (suc j) h lt within = above (serial_of s) ss to j h.2 (omega arith)
+  serial_at-above from (s ∷ ss) to (suc i) (suc j) h lt within = serial_at-above (serial_of s) ss to i j h.2 (omega arith) (omega arith)

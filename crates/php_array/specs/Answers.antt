@@ -1,8 +1,9 @@
 -- What the calls on an array hand back.
-use Rattle.std.specs.Prelude.{ℕ}
+use Rattle.std.specs.Prelude.{ℕ, ◌+◌, [], ◌∷◌, ◌++◌}
 use Rattle.std.specs.Borrow.{Bor}
 use Rattle.php_value.specs.declared.key.Key.{Key}
-use Rattle.php_entries.specs.Listing.{Entry}
+use Rattle.php_entries.specs.Keys.{next_key_above}
+use Rattle.php_entries.specs.Listing.{Entry, Listing}
 use Rattle.php_array.specs.declared.refusal.NoSet.{NoSet}
 use Rattle.php_array.specs.declared.refusal.NoSet.TheVariants as set
 use Rattle.php_array.specs.declared.refusal.NoAppend.{NoAppend}
@@ -26,3 +27,11 @@ module _ {T : Type 0} where
 
   abbrev pub key_and_value : Entry T → Key × T
   key_and_value e = (e.key, e.value)
+
+  -- the array with one more entry at its end, which has this serial
+  abbrev pub with_serial : Listing T → ℕ → Key → T → Listing T
+  with_serial l serial k v = record {
+    entries = l.entries ++ record { serial = serial; key = k; value = v } ∷ [];
+    next_key = next_key_above k l.next_key;
+    next_serial = serial + 1;
+  }

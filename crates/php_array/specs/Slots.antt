@@ -1,5 +1,5 @@
 -- The slots of an array: what entries they hold, and where the entry of a key stands.
-use Rattle.std.specs.Prelude.{ℕ, zero, suc, ◌≡◌, ◌<◌, Bool, if◌then◌else◌, List, [], ◌∷◌, Option, Some, None, option_map, is_some}
+use Rattle.std.specs.Prelude.{ℕ, zero, suc, ◌≡◌, ◌<◌, Bool, true, false, if◌then◌else◌, List, [], ◌∷◌, Option, Some, None, option_map, is_some}
 use Rattle.php_value.specs.declared.key.Key.{Key}
 use Rattle.php_entries.specs.Keys.{key_eq}
 use Rattle.php_entries.specs.Listing.{Entry}
@@ -54,6 +54,10 @@ module _ {T : Type 0} where
   with_value_at i v [] = []
   with_value_at zero v (s ∷ slots) = revalued v s ∷ slots
   with_value_at (suc i) v (s ∷ slots) = s ∷ with_value_at i v slots
+
+  abbrev pub is_live : Slot T → Bool
+  is_live (Hole serial) = false
+  is_live (Live e) = true
 
   abbrev pub stored_in : Slot T → Option (Stored T)
   stored_in (Hole serial) = None

@@ -1,14 +1,16 @@
 // An array: entries in the order of their making, found by their keys.
-ghost use Rattle.std.specs.Prelude.{◌≡◌, ◌+◌, ◌^◌, ◌↔◌, min, List, IsTrue, IfOk, IfErr, OnOk, OnErr, is_some, if◌then◌else◌, false, None, Some, Err, pos, option_copied, option_map, vec_len};
+ghost use Rattle.std.specs.Prelude.{◌≡◌, ◌+◌, ◌-◌, ◌^◌, ◌<◌, ◌≤◌, ◌↔◌, min, IsTrue, IsOk, IfOk, IfErr, OnOk, OnErr, is_some, if◌then◌else◌, false, None, Some, Err, pos, option_copied, option_map, vec_len};
 ghost use Rattle.php_entries.specs.Listing.{Listing, no_entries, count_of, entry_at, value_at, has_key, entry_after, last_of, is_at_limit};
 ghost use Rattle.php_entries.specs.Changes.{Grown, Full, Limit, with_entry, set_value, append_value, remove_key, pop_entry, with_values};
-ghost use Rattle.php_array.specs.Answers.{unset_value, unappended_value, shown_entry, key_and_value};
+ghost use Rattle.php_entries.specs.Soundness.{IsSound};
+ghost use Rattle.php_array.specs.Answers.{unset_value, unappended_value, shown_entry, key_and_value, with_serial};
 
 use crate::indexing::{find_live, find_stored, index_entry};
 use crate::key_index::KeyIndex;
-use crate::keys::{key_above, key_without, share_key};
-use crate::places::{next_stored, pop_stored, set_slot_value, skip_holes, slots_through, trim, vacate};
+use crate::keys::{int_key, key_above, key_without, next_int, share_key};
+use crate::places::{next_stored, pop_stored, set_slot_value, slots_through, vacate};
 use crate::refusal::{NoAppend, NoSet};
+use crate::repack::{make_room, settle};
 use crate::slot::{Slot, Stored};
 use php_base::{Ledger, NoMemory};
 use php_value::Key;
@@ -65,9 +67,17 @@ impl<T: Drop> Entries<T> {
 
     /// The number of entries.
     pub fn len(&self) -> usize
-        ensures { result ≡ count_of self.now }
+        ensures count { result ≡ count_of self.now }
+        ensures sound { IsSound self.now }
     {
         self.count
+    }
+
+    /// Whether there are no entries.
+    pub fn is_empty(&self) -> bool
+        ensures { IsTrue result ↔ (count_of self.now ≡ 0) }
+    {
+        self.count == 0
     }
 
     /// The value under a key.
@@ -94,10 +104,186 @@ impl<T: Drop> Entries<T> {
         }
     }
 
+    /// Sets a value under a key. A value that is there is replaced in its place and handed back. A
+    /// new key gets an entry at the end, which the ledger counts. A refusal changes nothing; it comes
+    /// only where a new entry is needed.
+    pub fn set(&mut self, key: Key, value: T, ledger: &mut Ledger) -> Result<Option<T>, NoSet<T>>
+        ensures set { IfOk result (λ old. (old ≡ value_at self.old key)
+            × (set_value self.old key value ≡ Grown self.new)) }
+        ensures limit { (result ≡ Err (NoSet.Limit value)) ↔ (set_value self.old key value ≡ Limit) }
+        ensures replaced { IsTrue (has_key self.old key) → IsOk result }
+        ensures handed_back { IfErr result (λ e. unset_value e ≡ value) }
+        ensures err { OnErr result (self.new ≡ self.old) }
+
+        ensures made { IfOk result (λ old. ledger.new.made
+            ≡ (if is_some old then ledger.old.made else min (ledger.old.made + 1) (2 ^ 64 - 1))) }
+        ensures not_made { OnErr result (ledger.new ≡ ledger.old) }
+    {
+        let value = match self.replace(&key, value) {
+            Ok(old) => return Ok(Some(old)),
+            Err(value) => value,
+        };
+        if self.is_at_limit() {
+            return Err(NoSet::Limit(value));
+        }
+        match self.add_next(key, value) {
+            Ok(()) => {
+                ledger.add(1);
+                Ok(None)
+            }
+            Err(value) => Err(NoSet::NoMemory(value)),
+        }
+    }
+
+    /// Adds a value at the end, under the next key, and answers that key. The ledger counts the
+    /// entry. A refusal changes nothing, and `Full` goes before `Limit`.
+    pub fn append(&mut self, value: T, ledger: &mut Ledger) -> Result<i64, NoAppend<T>>
+        ensures appended { IfOk result (λ k. (k ≡ pos self.old.next_key)
+            × (append_value self.old value ≡ Grown self.new)) }
+        ensures full { (result ≡ Err (NoAppend.Full value)) ↔ (append_value self.old value ≡ Full) }
+        ensures limit { (result ≡ Err (NoAppend.Limit value)) ↔ (append_value self.old value ≡ Limit) }
+        ensures handed_back { IfErr result (λ e. unappended_value e ≡ value) }
+        ensures err { OnErr result (self.new ≡ self.old) }
+
+        ensures made { OnOk result (ledger.new.made ≡ min (ledger.old.made + 1) (2 ^ 64 - 1)) }
+        ensures not_made { OnErr result (ledger.new ≡ ledger.old) }
+    {
+        if self.next_key >= KEY_LIMIT {
+            return Err(NoAppend::Full(value));
+        }
+        if self.is_at_limit() {
+            return Err(NoAppend::Limit(value));
+        }
+        let number = next_int(self.next_key);
+        let key = int_key(self.next_key);
+        match self.add_next(key, value) {
+            Ok(()) => {
+                ledger.add(1);
+                Ok(number)
+            }
+            Err(value) => Err(NoAppend::NoMemory(value)),
+        }
+    }
+
+    /// Takes the entry of a key out. The next key and the next serial stay.
+    pub fn remove(&mut self, key: &Key) -> Option<T>
+        ensures value { result ≡ value_at self.old key.now }
+        ensures after { self.new ≡ remove_key self.old key.now }
+    {
+        let Some(place) = find_live(&self.index, &self.slots, key) else {
+            return None;
+        };
+        self.index.forget(key);
+        let stored = vacate(&mut self.slots, place);
+        self.count -= 1;
+        self.first = settle(&mut self.index, &mut self.slots, self.first, self.count);
+        Some(stored.into_value())
+    }
+
+    /// Takes the last entry out. Where its key is the int that was given out last, that key is the
+    /// next one again.
+    pub fn pop(&mut self) -> Option<(Key, T)>
+        ensures entry { result ≡ option_map key_and_value (last_of self.old.entries) }
+        ensures after { self.new ≡ pop_entry self.old }
+    {
+        let Some(stored) = pop_stored(&mut self.slots) else {
+            self.first = 0;
+            return None;
+        };
+        self.index.forget(&stored.key);
+        self.next_key = key_without(&stored.key, self.next_key);
+        self.count -= 1;
+        self.first = settle(&mut self.index, &mut self.slots, self.first, self.count);
+        Some(stored.into_key_and_value())
+    }
+
+    /// The first entry that was made after the one with this serial, 0 for the first of all: its
+    /// serial, its key and its value.
+    pub fn entry_after(&self, serial: u64) -> Option<(u64, &Key, &T)>
+        ensures { option_map shown_entry result ≡ entry_after self.now serial }
+    {
+        let place = slots_through(&self.slots, serial).max(self.first);
+        match next_stored(&self.slots, place) {
+            Some((_, stored)) => Some(stored.shown()),
+            None => None,
+        }
+    }
+
+    /// An array with the same keys and serials and with these values, one each in their order. The
+    /// ledger counts all of its entries. Where memory is wanting the values are dropped, and the
+    /// ledger stays.
+    pub fn with_values(&self, values: Vec<T>, ledger: &mut Ledger) -> Result<Entries<T>, NoMemory>
+        requires { vec_len values ≡ count_of self.now }
+        ensures ok { IfOk result (λ copy. copy ≡ with_values self.now values.items) }
+
+        ensures made { OnOk result (ledger.new.made
+            ≡ min (ledger.old.made + vec_len values) (2 ^ 64 - 1)) }
+        ensures not_made { OnErr result (ledger.new ≡ ledger.old) }
+    {
+        let made = values.len() as u64;
+        let mut copy = Entries::new(*self.slots.allocator());
+        let mut place = 0;
+        for value in values {
+            let Some((at, stored)) = next_stored(&self.slots, place) else {
+                unreachable!();
+            };
+            let key = share_key(&stored.key)?;
+            let Ok(()) = copy.add(stored.serial, key, value) else {
+                return Err(NoMemory);
+            };
+            place = at + 1;
+        }
+        copy.next_key = self.next_key;
+        copy.next_serial = self.next_serial;
+        ledger.add(made);
+        Ok(copy)
+    }
+
     // Whether no entry can be added.
     fn is_at_limit(&self) -> bool
         ensures { result ≡ is_at_limit self.now }
     {
         self.count >= ENTRY_LIMIT || self.next_serial >= SERIAL_LIMIT
+    }
+
+    // Adds an entry that gets the next serial.
+    fn add_next(&mut self, key: Key, value: T) -> Result<(), T>
+        requires absent { entry_at self.old key ≡ None }
+        requires room { is_at_limit self.old ≡ false }
+        ensures ok { OnOk result (self.new ≡ with_entry self.old key value) }
+        ensures err { OnErr result (self.new ≡ self.old) }
+        ensures handed_back { IfErr result (λ v. v ≡ value) }
+    {
+        let serial = self.next_serial;
+        self.add(serial, key, value)
+    }
+
+    // Adds an entry with a serial that is above those of all entries before.
+    fn add(&mut self, serial: u64, key: Key, value: T) -> Result<(), T>
+        requires absent { entry_at self.old key ≡ None }
+        requires room { count_of self.old < ENTRY_LIMIT }
+        requires later { self.old.next_serial ≤ serial }
+        requires within { serial < SERIAL_LIMIT }
+        ensures ok { OnOk result (self.new ≡ with_serial self.old serial key value) }
+        ensures err { OnErr result (self.new ≡ self.old) }
+        ensures handed_back { IfErr result (λ v. v ≡ value) }
+    {
+        let Ok(()) = make_room(
+            &mut self.index,
+            &mut self.slots,
+            &mut self.first,
+            self.count,
+        ) else {
+            return Err(value);
+        };
+        let Ok(()) = index_entry(&mut self.index, &self.slots, &key) else {
+            return Err(value);
+        };
+        self.next_key = key_above(&key, self.next_key);
+        self.next_serial = serial + 1;
+        self.count += 1;
+        self.slots
+            .push_reserved(Slot::Live(Stored { serial, key, value }));
+        Ok(())
     }
 }

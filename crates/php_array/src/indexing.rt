@@ -16,11 +16,7 @@ use php_base::NoMemory;
 use php_value::Key;
 
 /// Puts the key of an entry in that is about to stand behind the slots.
-pub fn index_entry<T>(
-    index: &mut KeyIndex,
-    slots: &Vec<Slot<T>>,
-    key: &Key,
-) -> Result<(), NoMemory>
+pub fn index_entry<T>(index: &mut KeyIndex, slots: &Vec<Slot<T>>, key: &Key) -> Result<(), NoMemory>
     requires indexed { IsIndexed index.old slots.now.items }
     requires distinct { AreKeysDistinct (entries_in slots.now.items) }
     requires absent { place_of key.now slots.now.items ≡ None }

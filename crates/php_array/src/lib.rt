@@ -9,6 +9,7 @@ mod keys;
 mod packed;
 mod places;
 mod refusal;
+mod repack;
 mod slot;
 
 pub use entries::Entries;

@@ -116,6 +116,22 @@ pub fn next_stored<T>(slots: &Vec<Slot<T>>, from: usize) -> Option<(usize, &Stor
     None
 }
 
+/// The place of a slot with this serial, where no serial is left out before it.
+fn place_by_distance<T>(slots: &Vec<Slot<T>>, serial: u64) -> Option<usize>
+    ensures within { IfSome result (λ place. place < vec_len slots.now) }
+    ensures serial { IfSome result (λ place. serial_at place slots.now.items ≡ serial) }
+{
+    if slots.is_empty() {
+        return None;
+    }
+    let place = serial.checked_sub(slot_serial(slots, 0))? as usize;
+    if place < slots.len() && slot_serial(slots, place) == serial {
+        Some(place)
+    } else {
+        None
+    }
+}
+
 /// How many slots have at most this serial.
 pub fn slots_through<T>(slots: &Vec<Slot<T>>, serial: u64) -> usize
     requires { (to : ℕ) × DoSerialsRise 0 slots.now.items to }
@@ -124,6 +140,9 @@ pub fn slots_through<T>(slots: &Vec<Slot<T>>, serial: u64) -> usize
     ensures behind { (i : ℕ) → result ≤ i → i < vec_len slots.now →
         serial < serial_at i slots.now.items }
 {
+    if let Some(place) = place_by_distance(slots, serial) {
+        return place + 1;
+    }
     let mut low = 0;
     let mut high = slots.len();
     while low < high {

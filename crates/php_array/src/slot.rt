@@ -25,10 +25,41 @@ impl<T> Stored<T> {
     {
         &self.value
     }
+
+    /// Its serial, its key and its value.
+    pub fn shown(&self) -> (u64, &Key, &T)
+        ensures serial { result.0 ≡ self.now.serial }
+        ensures key { result.1.now ≡ self.now.key }
+        ensures value { result.2.now ≡ self.now.value }
+    {
+        (self.serial, &self.key, &self.value)
+    }
+
+    pub fn into_key_and_value(self) -> (Key, T)
+        ensures { result ≡ (self.key, self.value) }
+    {
+        let Stored {
+            serial: _,
+            key,
+            value,
+        } = self;
+        (key, value)
+    }
+
+    pub fn into_value(self) -> T
+        ensures { result ≡ self.value }
+    {
+        let Stored {
+            serial: _,
+            key: _,
+            value,
+        } = self;
+        value
+    }
 }
 
 impl<T> Slot<T> {
-    ghost use Rattle.php_array.specs.Slots.{serial_of, stored_in};
+    ghost use Rattle.php_array.specs.Slots.{serial_of, is_live, stored_in};
 
     pub fn serial(&self) -> u64
         ensures { result ≡ serial_of self.now }
@@ -36,6 +67,15 @@ impl<T> Slot<T> {
         match self {
             Slot::Hole(serial) => *serial,
             Slot::Live(stored) => stored.serial,
+        }
+    }
+
+    pub fn is_live(&self) -> bool
+        ensures { result ≡ is_live self.now }
+    {
+        match self {
+            Slot::Hole(_) => false,
+            Slot::Live(_) => true,
         }
     }
 

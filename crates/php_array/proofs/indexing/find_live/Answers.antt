@@ -1,4 +1,4 @@
-use Rattle.std.proofs.Common.{◌≡◌, ◌∙◌, sym, ap, Some, None}
+use Rattle.std.proofs.Common.{◌∙◌, sym}
 use Rattle.php_array.proofs.IndexLemmas.{candidate-hole}
 use Rattle.php_array.proofs.PlaceLemmas.{copied_none}
 use Rattle.php_array.proofs.indexing.find_live.Goals as goal

@@ -1,7 +1,6 @@
-use Rattle.std.proofs.Common.{◌≡◌, ◌∙◌, sym, ap, refl, Some, None}
-use Rattle.std.specs.Prelude.{Option, option_map, option_copied}
+use Rattle.std.proofs.Common.{◌∙◌, sym, ap, refl}
+use Rattle.std.specs.Prelude.{option_map}
 use Rattle.php_array.specs.Slots.{entry_of, stored_at}
-use Rattle.php_array.specs.declared.slot.Stored.{Stored}
 use Rattle.php_array.proofs.IndexLemmas.{candidate-none, candidate-find}
 use Rattle.php_array.proofs.SlotLemmas.{place_of-none}
 use Rattle.php_array.proofs.indexing.find_stored.Goals as goal

@@ -1,4 +1,4 @@
-use Rattle.std.proofs.Common.{rules, ◌≡◌, ◌∙◌, ℕ, length, sym, ap, Some, None}
+use Rattle.std.proofs.Common.{rules, ◌≡◌, ◌∙◌, length}
 use Rattle.php_value.specs.declared.key.Key.{Key}
 use Rattle.php_array.proofs.IndexLemmas.{pushed_packed, pushed_hashed, OnOk-map, OnErr-map}
 use Rattle.php_array.proofs.indexing.index_entry.Goals as goal
@@ -17,7 +17,7 @@ pub returns-in-Hashed-clause-ok : goal.returns-in-Hashed-clause-ok
 returns-in-Hashed-clause-ok g c =
     let len : c.len-in-Hashed.result ≡ length c.args.slots.now.items = search rules in
     OnOk-map c.insert_place-in-Hashed.result c.insert_place-in-Hashed.ensures.ok (λ sets.
-      pushed_hashed c.in-Hashed.places.entries c.insert_place-in-Hashed.new.places.entries c.len-in-Hashed.result c.args.slots.now.items c.args.key.now (rw c.in-Hashed.is at c.requires.indexed) c.requires.absent sets len)
+    pushed_hashed c.in-Hashed.places.entries c.insert_place-in-Hashed.new.places.entries c.len-in-Hashed.result c.args.slots.now.items c.args.key.now (rw c.in-Hashed.is at c.requires.indexed) c.requires.absent sets len)
 
 pub returns-in-Hashed-clause-err : goal.returns-in-Hashed-clause-err
 returns-in-Hashed-clause-err g c =

@@ -1,4 +1,4 @@
-use Rattle.std.proofs.Common.{◌≡◌, ◌∷◌, drop, sym, ◌∙◌, ap, ℕ, add-one, Some, None}
+use Rattle.std.proofs.Common.{◌∷◌, drop, sym, ◌∙◌, ap, ℕ, add-one}
 use Rattle.std.specs.Prelude.{option_copied}
 use Rattle.php_array.specs.Slots.{entries_in, entry_of}
 use Rattle.php_array.proofs.SlotLemmas.{drop-live, drop-hole}

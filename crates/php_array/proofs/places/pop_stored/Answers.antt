@@ -1,4 +1,4 @@
-use Rattle.std.proofs.Common.{◌≡◌, ap, ◌∙◌}
+use Rattle.std.proofs.Common.{ap}
 use Rattle.php_array.specs.Slots.{stored_in}
 use Rattle.php_array.proofs.SlotLemmas.{HoldsSame-step}
 use Rattle.php_array.proofs.places.pop_stored.Goals as goal

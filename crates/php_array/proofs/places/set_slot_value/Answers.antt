@@ -1,5 +1,5 @@
-use Rattle.std.proofs.Common.{rules, ◌≡◌, ◌<◌, length, sym, ◌∙◌, ap, Some}
-use Rattle.std.specs.Prelude.{slice_set, option_map, Option}
+use Rattle.std.proofs.Common.{rules, sym, ◌∙◌, ap, Some}
+use Rattle.std.specs.Prelude.{slice_set, option_map}
 use Rattle.php_array.specs.Slots.{revalued}
 use Rattle.php_array.specs.declared.slot.Slot.{Slot}
 use Rattle.php_array.specs.declared.slot.Slot.TheVariants.{Live}
@@ -18,7 +18,7 @@ pub returns-clause-old : goal.returns-clause-old
 returns-clause-old g c =
     ap (option_map (λ (e : Stored _). e.value))
     (stored_at-live c.args.place c.args.slots.now.items c.index_mut.result.now c.in-Live.stored
-      (stored-within c.args.place c.args.slots.now.items c.requires) c.index_mut.ensures.value c.in-Live.is)
+    (stored-within c.args.place c.args.slots.now.items c.requires) c.index_mut.ensures.value c.in-Live.is)
     ∙ ap Some (sym c.replace.ensures.value)
 
 pub returns-clause-after : goal.returns-clause-after

@@ -1,5 +1,5 @@
-use Rattle.std.proofs.Common.{◌≡◌, ℕ, sym, ◌∙◌, ap, subst, add-one, arith, Some, None}
-use Rattle.std.specs.Prelude.{option_copied, not, Option, is_some, false}
+use Rattle.std.proofs.Common.{◌≡◌, ℕ, sym, ◌∙◌, ap, subst, add-one, arith, None}
+use Rattle.std.specs.Prelude.{not}
 use Rattle.php_array.specs.Slots.{AreHoles, stored_at}
 use Rattle.php_array.proofs.SlotLemmas.{AreHoles-more}
 use Rattle.php_array.proofs.PlaceLemmas.{copied_none}

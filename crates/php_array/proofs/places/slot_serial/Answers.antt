@@ -1,4 +1,4 @@
-use Rattle.std.proofs.Common.{rules, ◌≡◌, ◌<◌, length, sym, ◌∙◌, ap}
+use Rattle.std.proofs.Common.{rules, ◌<◌, length, sym, ◌∙◌, ap}
 use Rattle.php_array.specs.Slots.{serial_of}
 use Rattle.php_array.proofs.PlaceLemmas.{serial_at-get}
 use Rattle.php_array.proofs.places.slot_serial.Goals as goal

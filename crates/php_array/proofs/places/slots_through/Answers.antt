@@ -1,6 +1,5 @@
-use Rattle.std.proofs.Common.{rules, ◌≡◌, ◌<◌, ◌≤◌, ◌+◌, ◌-◌, ◌/◌, ◌⊎◌, inl, inr, ℕ, length, sym, ◌∙◌, ap, subst, arith}
-use Rattle.php_array.specs.Slots.{serial_at}
-use Rattle.php_array.proofs.SlotLemmas.{serials_through, serials_behind}
+use Rattle.std.proofs.Common.{◌<◌, ◌+◌, ◌-◌, ◌/◌, length, arith}
+use Rattle.php_array.proofs.SlotLemmas.{serials_through, serials_behind, serial_at-above}
 use Rattle.php_array.proofs.places.slots_through.Goals as goal
 
 pub loop-low-preserved-then-slot_serial-serial : goal.loop-low-preserved-then-slot_serial-serial
@@ -27,3 +26,17 @@ loop-low-preserved g c =
       through = c.loop-low.invariant.through;
       behind = λ i above within. serials_behind ss c.requires.0 middle c.args.serial c.requires.1 (omega arith) i above (omega arith);
     }
+
+pub returns-in-Some-clause-through : goal.returns-in-Some-clause-through
+returns-in-Some-clause-through g c =
+    let ok = c.args.slots.now.ok in
+    serials_through c.args.slots.now.items c.requires.0 c.in-Some.place c.args.serial c.requires.1 (let within = c.in-Some.ensures.within in omega arith) (let same = c.in-Some.ensures.serial in omega arith)
+
+pub returns-in-Some-clause-behind : goal.returns-in-Some-clause-behind
+returns-in-Some-clause-behind g c =
+    let ss = c.args.slots.now.items in
+    let ok = c.args.slots.now.ok in
+    λ i behind within.
+    let above = serial_at-above 0 ss c.requires.0 c.in-Some.place i c.requires.1 (omega arith) (omega arith) in
+    let same = c.in-Some.ensures.serial in
+    omega arith

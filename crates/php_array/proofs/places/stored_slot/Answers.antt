@@ -1,4 +1,4 @@
-use Rattle.std.proofs.Common.{rules, ◌≡◌, ◌<◌, ◌≤◌, length, sym, ◌∙◌, ap, arith}
+use Rattle.std.proofs.Common.{rules, ◌<◌, ◌≤◌, length, sym, ◌∙◌}
 use Rattle.php_array.proofs.PlaceLemmas.{stored_at-item, stored_at-past}
 use Rattle.php_array.proofs.places.stored_slot.Goals as goal
 

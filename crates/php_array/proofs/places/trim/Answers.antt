@@ -1,4 +1,3 @@
-use Rattle.std.proofs.Common.{sym}
 use Rattle.php_array.proofs.SlotLemmas.{HoldsSame-pop}
 use Rattle.php_array.proofs.places.trim.Goals as goal
 

@@ -1,4 +1,4 @@
-use Rattle.std.proofs.Common.{rules, ◌≡◌, ◌<◌, ℕ, length, sym, ◌∙◌, ap, Some}
+use Rattle.std.proofs.Common.{rules, ℕ, sym, ◌∙◌, ap}
 use Rattle.std.specs.Prelude.{slice_set}
 use Rattle.php_array.specs.Slots.{serial_of}
 use Rattle.php_array.specs.declared.slot.Slot.{Slot}

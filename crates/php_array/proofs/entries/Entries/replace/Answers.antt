@@ -1,6 +1,5 @@
-use Rattle.std.proofs.Common.{◌≡◌, ◌∙◌, sym, ap, subst, refl, Some, None, List}
-use Rattle.std.specs.Prelude.{Option}
-use Rattle.php_entries.specs.Changes.{Grown, set_value}
+use Rattle.std.proofs.Common.{◌∙◌, sym, ap, subst, refl, List}
+use Rattle.php_entries.specs.Changes.{Grown}
 use Rattle.php_array.specs.Kept.{listing_of, IsKept}
 use Rattle.php_array.specs.declared.slot.Slot.{Slot}
 use Rattle.php_array.proofs.KeptLemmas.{kept-with_value, value_at-missing, value_at-place, set_value-place, is_some-place}
@@ -17,10 +16,11 @@ invariant_of-self g c =
 
 pub returns-in-Some-clause-ok : goal.returns-in-Some-clause-ok
 returns-in-Some-clause-ok g c =
-    let i = c.self.inside in
-    (value_at-place c.args.self.now i.slots.items i.next_key i.next_serial c.self.view_is c.args.key.now c.in-Some.place c.set_slot_value.result (sym c.in-Some.ensures) c.set_slot_value.ensures.old,
+    let i = c.self.inside in (
+      value_at-place c.args.self.now i.slots.items i.next_key i.next_serial c.self.view_is c.args.key.now c.in-Some.place c.set_slot_value.result (sym c.in-Some.ensures) c.set_slot_value.ensures.old,
       set_value-place c.args.self.now i.slots.items i.next_key i.next_serial c.self.view_is c.args.key.now c.in-Some.place c.args.value (sym c.in-Some.ensures)
-      ∙ ap (λ (ss : List (Slot _)). Grown (listing_of ss i.next_key i.next_serial)) (sym c.set_slot_value.ensures.after))
+          ∙ ap (λ (ss : List (Slot _)). Grown (listing_of ss i.next_key i.next_serial)) (sym c.set_slot_value.ensures.after),
+    )
 
 pub returns-in-None-clause-missing : goal.returns-in-None-clause-missing
 returns-in-None-clause-missing g c =

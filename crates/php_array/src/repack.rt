@@ -1,0 +1,131 @@
+// Slots are packed anew where most of them are holes.
+ghost use Rattle.std.specs.Prelude.{◌≡◌, ◌<◌, ◌≤◌, filter, drop, OnOk, OnErr, IfOk, vec_len, vec_capacity};
+ghost use Rattle.php_entries.specs.Soundness.{AreKeysDistinct};
+ghost use Rattle.php_array.specs.Index.{IsIndexed};
+ghost use Rattle.php_array.specs.Kept.{IsStored, IsRepacked};
+ghost use Rattle.php_array.specs.Slots.{is_live, entries_in, AreHoles};
+
+use crate::key_index::KeyIndex;
+use crate::key_places::{collect_places, renew_places};
+use crate::places::{skip_holes, trim};
+use crate::slot::Slot;
+use php_base::NoMemory;
+
+/// Fewer slots than this are not packed anew.
+const FEW_SLOTS: usize = 16;
+
+/// Whether most of the slots are holes.
+fn is_sparse(slots: usize, entries: usize) -> bool {
+    slots >= FEW_SLOTS && entries < slots / 2
+}
+
+/// Drops all holes.
+fn drop_holes<T: Drop>(slots: &mut Vec<Slot<T>>)
+    ensures { slots.new.items ≡ filter is_live slots.old.items }
+{
+    slots.retain(|slot| slot.is_live());
+}
+
+/// Drops the first slots.
+fn drop_front<T: Drop>(slots: &mut Vec<Slot<T>>, first: usize)
+    requires { first ≤ vec_len slots.old }
+    ensures { slots.new.items ≡ drop first slots.old.items }
+{
+    let left = slots.len() - first;
+    slots.as_mut_slice().rotate_left(first);
+    slots.truncate(left);
+}
+
+/// Gives each key a place in a map.
+fn hash_index<T>(index: &mut KeyIndex, slots: &Vec<Slot<T>>) -> Result<(), NoMemory>
+    requires distinct { AreKeysDistinct (entries_in slots.now.items) }
+    requires indexed { IsIndexed index.old slots.now.items }
+    ensures { IsIndexed index.new slots.now.items }
+{
+    if let KeyIndex::Packed(_) = index {
+        *index = KeyIndex::Hashed(collect_places(slots)?);
+    }
+    Ok(())
+}
+
+/// Drops holes: all of them, or where the places tell the keys those in front.
+fn compact<T: Drop>(index: &mut KeyIndex, slots: &mut Vec<Slot<T>>, first: usize) -> usize
+    requires { IsStored index.old slots.old.items first }
+    ensures { IsRepacked slots.old.items slots.new.items index.new result }
+{
+    match index {
+        KeyIndex::Hashed(places) => {
+            drop_holes(slots);
+            renew_places(places, slots);
+            0
+        }
+        KeyIndex::Packed(first_key) => match first_key.checked_add(first as u64) {
+            Some(shifted_key) if first >= slots.len() / 2 => {
+                drop_front(slots, first);
+                *first_key = shifted_key;
+                0
+            }
+            _ => first,
+        },
+    }
+}
+
+/// Drops the holes behind the last entry and goes on over those in front, after an entry was taken
+/// out. Where most slots are holes by now, they are packed anew.
+pub fn settle<T: Drop>(
+    index: &mut KeyIndex,
+    slots: &mut Vec<Slot<T>>,
+    first: usize,
+    count: usize,
+) -> usize
+    requires distinct { AreKeysDistinct (entries_in slots.old.items) }
+    requires indexed { IsIndexed index.old slots.old.items }
+    requires holes { AreHoles first slots.old.items }
+    ensures { IsRepacked slots.old.items slots.new.items index.new result }
+{
+    trim(slots);
+    let first = skip_holes(slots, first.min(slots.len()));
+    if is_sparse(slots.len(), count) {
+        compact(index, slots, first)
+    } else {
+        first
+    }
+}
+
+/// Drops all holes, whatever the index was. Answers `NoMemory` where the index needs a map and gets
+/// none; then nothing has changed.
+fn compact_all<T: Drop>(
+    index: &mut KeyIndex,
+    slots: &mut Vec<Slot<T>>,
+    first: usize,
+) -> Result<usize, NoMemory>
+    requires { IsStored index.old slots.old.items first }
+    ensures ok { IfOk result (IsRepacked slots.old.items slots.new.items index.new) }
+    ensures err { OnErr result (slots.new.items ≡ slots.old.items) }
+    ensures err_index { OnErr result (IsIndexed index.new slots.new.items) }
+{
+    hash_index(index, slots)?;
+    Ok(compact(index, slots, first))
+}
+
+/// Makes room for a further slot. Where the room is used up and most slots are holes, they are packed
+/// anew.
+pub fn make_room<T: Drop>(
+    index: &mut KeyIndex,
+    slots: &mut Vec<Slot<T>>,
+    first: &mut usize,
+    count: usize,
+) -> Result<(), NoMemory>
+    requires { IsStored index.old slots.old.items first.old }
+    ensures packed { IsRepacked slots.old.items slots.new.items index.new first.new }
+    ensures room { OnOk result (vec_len slots.new < vec_capacity slots.new) }
+{
+    if slots.len() < slots.capacity() {
+        return Ok(());
+    }
+    if is_sparse(slots.len(), count) {
+        *first = compact_all(index, slots, *first)?;
+    }
+    slots.reserve(1)?;
+    Ok(())
+}
