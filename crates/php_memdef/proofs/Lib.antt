@@ -12,3 +12,6 @@ pub mod CopyLemmas
 pub mod ReleaseLemmas
 pub mod TemporaryLemmas
 pub mod ViewLemmas
+pub mod KeptLemmas
+pub mod KeptWriteLemmas
+pub mod KeptReleaseLemmas

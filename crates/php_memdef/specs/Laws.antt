@@ -20,3 +20,7 @@ ShowsAlike view = (m n : Mem) → Alike m n → view n ≡ view m
 -- what holds of a memory holds of all that are alike
 abbrev pub HoldsAlike : (Mem → Type 0) → Type 0
 HoldsAlike P = (m n : Mem) → Alike m n → P m → P n
+
+-- where every named store is there, it is so afterwards
+abbrev pub KeepsClosed : (Mem → Mem) → Type 0
+KeepsClosed op = (m : Mem) → IsClosed m → IsClosed (op m)

@@ -8,7 +8,7 @@ ghost use Rattle.php_memdef.specs.Alike.{Alike};
 ghost use Rattle.php_memdef.specs.Holders.{vslots};
 ghost use Rattle.php_memdef.specs.Views.{Shows, found, later_entry, is_aliased, temps_count, cost_of};
 ghost use Rattle.php_memdef.specs.Conditions.{IsBlock, IsPlace, CanLeave, CanPush, CanPushArray, CanPushObject, CanCopy, CanAssign, CanLink, CanBind, CanSettle, CanPass, CanUnset, CanUnsetLast, CanForget, CanDropTop, CanMakeObject, CanClone, CanAttach};
-ghost use Rattle.php_memdef.specs.Laws.{AnswersAlike, HoldsAlike, RespectsAlike, ShowsAlike};
+ghost use Rattle.php_memdef.specs.Laws.{AnswersAlike, HoldsAlike, KeepsClosed, RespectsAlike, ShowsAlike};
 ghost use Rattle.php_memdef.specs.Temporaries as temporaries;
 ghost use Rattle.php_memdef.specs.Writes as writes;
 ghost use Rattle.php_memdef.specs.Releases as releases;
@@ -100,4 +100,31 @@ pub fn conditions_respect_alike()
     ensures object { (b : ℕ) → HoldsAlike (CanMakeObject b) }
     ensures clone_object { (b : ℕ) → HoldsAlike (CanClone b) }
     ensures attach { (h : ℕ) (frame : Option ℕ) → HoldsAlike (CanAttach h frame) }
+{}
+
+/// Where every named store is there, it is so after each operation.
+pub fn operations_keep_closed()
+    ensures enter { (b room : ℕ) → KeepsClosed (λ m. temporaries.enter m b room) }
+    ensures leave { (b : ℕ) → KeepsClosed (λ m. temporaries.leave m b) }
+    ensures push { (b : ℕ) (v : Scalar) → KeepsClosed (λ m. temporaries.push m b v) }
+    ensures push_array { (b : ℕ) → KeepsClosed (λ m. temporaries.push_array m b) }
+    ensures push_object { (b h : ℕ) → KeepsClosed (λ m. temporaries.push_object m b h) }
+    ensures pass { (b c : ℕ) → KeepsClosed (λ m. temporaries.pass m b c) }
+    ensures drop_top { (b : ℕ) → KeepsClosed (λ m. temporaries.drop_top m b) }
+    ensures copy { (b : ℕ) (p : Place) → KeepsClosed (λ m. (temporaries.copy m b p).0) }
+    ensures settle { (b : ℕ) → KeepsClosed (λ m. temporaries.settle m b) }
+    ensures assign { (b : ℕ) (p : Place) → KeepsClosed (λ m. (writes.assign m b p).0) }
+    ensures link { (b : ℕ) (p : Place) → KeepsClosed (λ m. (writes.make_link m b p).0) }
+    ensures bind { (b : ℕ) (p : Place) → KeepsClosed (λ m. (writes.bind m b p).0) }
+    ensures unset { (b : ℕ) (p : Place) → KeepsClosed (λ m. writes.unset m b p) }
+    ensures unset_last { (b : ℕ) (p : Place) → KeepsClosed (λ m. writes.unset_last m b p) }
+    ensures forget { (b n : ℕ) → KeepsClosed (λ m. writes.forget m b n) }
+    ensures shed { (b : ℕ) → KeepsClosed (λ m. (writes.shed m b).0) }
+    ensures fall { (b : ℕ) → KeepsClosed (λ m. (releases.fall m b).0) }
+    ensures object { (b class : ℕ) (finishing : Bool) →
+        KeepsClosed (λ m. (objects.make_object m b class finishing).0) }
+    ensures clone_object { (b : ℕ) → KeepsClosed (λ m. (objects.clone_object m b).0) }
+    ensures finish { (h : ℕ) → KeepsClosed (λ m. objects.finish m h) }
+    ensures spare { (h : ℕ) → KeepsClosed (λ m. objects.spare m h) }
+    ensures attach { (h : ℕ) (frame : Option ℕ) → KeepsClosed (λ m. objects.attach m h frame) }
 {}
