@@ -1,0 +1,17 @@
+pub mod Examples
+pub mod NumberedLemmas
+pub mod RenamingLemmas
+pub mod AlikeLemmas
+pub mod ScopeLemmas
+pub mod PlaceLemmas
+pub mod ClosedLemmas
+pub mod NewStoreLemmas
+pub mod WalkLemmas
+pub mod TotalLemmas
+pub mod CopyLemmas
+pub mod ReleaseLemmas
+pub mod TemporaryLemmas
+pub mod ViewLemmas
+pub mod KeptLemmas
+pub mod KeptWriteLemmas
+pub mod KeptReleaseLemmas

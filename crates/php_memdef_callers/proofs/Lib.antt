@@ -1,0 +1,3 @@
+pub mod OneBlockLemmas
+pub mod WitnessLemmas
+pub mod TestLemmas
