@@ -4,6 +4,7 @@
 
 mod rounds;
 
+use php_value::Key;
 use rounds::{Figures, measure};
 use std::{env, io};
 

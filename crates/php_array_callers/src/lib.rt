@@ -3,6 +3,8 @@
 #![tactic(auto)]
 
 mod copies;
+#[cfg(test)]
+mod plain;
 mod queue;
 mod tally;
 #[cfg(test)]

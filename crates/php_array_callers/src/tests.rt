@@ -1,7 +1,10 @@
 use super::*;
+use crate::plain::{Name, Plain};
 use php_array::{Entries, NoAppend};
 use php_base::Ledger;
 use php_value::{Key, Text};
+use std::alloc::Global;
+use std::process::Abort;
 use std::test::Fail;
 
 // The key -5, two appended numbers, and the first of them removed: a walk goes on behind the gap,
@@ -83,4 +86,59 @@ fn shown(entry: Option<(u64, &Key, &u32)>) -> Option<(u64, i64, u32)> {
         Some((serial, Key::Int(key), value)) => Some((serial, *key, *value)),
         _ => None,
     }
+}
+
+// The entries of the array are those of the list, in its order.
+fn walk(
+    rt: &(impl Abort + Alloc<A = Global>),
+    array: &Entries<u32>,
+    plain: &Plain,
+) -> Result<(), Fail> {
+    assert_eq!(rt; array.len(), plain.entries.len());
+    let mut last = 0;
+    for (serial, name, value) in plain.entries.as_slice() {
+        let (met, key, number) = array.entry_after(last).ok_or("an entry is missing")?;
+        assert_eq!(rt; met, *serial);
+        assert!(rt; *key == name.to_key(rt.alloc()).ok().ok_or("no memory")?);
+        assert_eq!(rt; *number, *value);
+        last = met;
+    }
+    assert!(rt; array.entry_after(last).is_none());
+    Ok(())
+}
+
+// Random changes of an array and of a plain list.
+#[test]
+fn an_array_is_a_plain_list(rt: HostRuntime) -> Result<(), Fail> {
+    let mut ledger = Ledger { made: 0 };
+    let mut array = Entries::new(rt.alloc());
+    let mut plain = Plain::new(rt.alloc());
+    let mut state = 1u64;
+    for _ in 0..4000 {
+        state = state
+            .wrapping_mul(6_364_136_223_846_793_005)
+            .wrapping_add(1_442_695_040_888_963_407);
+        let value = (state >> 40) as u32;
+        let number = (state >> 36) % 24;
+        let name = if number < 20 {
+            Name::Number(number as i64 - 4)
+        } else {
+            Name::Letter(number as u8)
+        };
+        let key = name.to_key(rt.alloc()).ok().ok_or("no memory")?;
+        match (state >> 33) % 8 {
+            0 | 1 => assert_eq!(rt;
+                array.append(value, &mut ledger).ok(),
+                Some(plain.append(value)?)
+            ),
+            2 | 3 => assert_eq!(rt;
+                array.set(key, value, &mut ledger).ok(),
+                Some(plain.set(name, value)?)
+            ),
+            4 | 5 => assert_eq!(rt; array.remove(&key), plain.remove(name)),
+            6 => assert_eq!(rt; array.pop().map(|p| p.1), plain.pop().map(|p| p.1)),
+            _ => walk(&rt, &array, &plain)?,
+        }
+    }
+    walk(&rt, &array, &plain)
 }
