@@ -15,3 +15,4 @@ pub mod ViewLemmas
 pub mod KeptLemmas
 pub mod KeptWriteLemmas
 pub mod KeptReleaseLemmas
+pub mod EndLemmas

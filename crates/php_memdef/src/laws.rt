@@ -1,9 +1,10 @@
 // What holds of the model alone. Each function says it in its contract, and its body is empty.
-ghost use Rattle.std.specs.Prelude.{ℕ, Bool, Option};
+ghost use Rattle.std.specs.Prelude.{◌≡◌, ℕ, Bool, Option, []};
 ghost use Rattle.php_value.specs.declared.scalar.Scalar.{Scalar};
 ghost use Rattle.php_memdef.specs.declared.place.Place.{Place};
 ghost use Rattle.php_memdef.specs.declared.answer.Peek.{Peek};
-ghost use Rattle.php_memdef.specs.Contents.{Mem};
+ghost use Rattle.php_memdef.specs.declared.answer.Fallen.TheVariants.{Nothing};
+ghost use Rattle.php_memdef.specs.Contents.{Mem, scope_of};
 ghost use Rattle.php_memdef.specs.Alike.{Alike};
 ghost use Rattle.php_memdef.specs.Holders.{vslots};
 ghost use Rattle.php_memdef.specs.Views.{Shows, found, later_entry, is_aliased, temps_count, cost_of};
@@ -127,4 +128,10 @@ pub fn operations_keep_closed()
     ensures finish { (h : ℕ) → KeepsClosed (λ m. objects.finish m h) }
     ensures spare { (h : ℕ) → KeepsClosed (λ m. objects.spare m h) }
     ensures attach { (h : ℕ) (frame : Option ℕ) → KeepsClosed (λ m. objects.attach m h frame) }
+{}
+
+/// A release that answers that nothing is left has released all that had fallen in the block.
+pub fn releases_end()
+    ensures { (m : Mem) (b : ℕ) →
+        (releases.fall m b).1 ≡ Nothing → (scope_of (releases.fall m b).0 b).falling ≡ [] }
 {}
