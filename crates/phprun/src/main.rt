@@ -1,15 +1,12 @@
 // The command line program: the words, the files and the streams of the host.
 #![tactic(auto)]
 
-use php_base::StdShelf;
-use php_base::StdSink;
-use php_base::put_all;
+use php_base::{StdShelf, StdSink, put_all};
 use php_run::run_php;
 use std::alloc::Global;
-use std::env;
 use std::env::Env;
-use std::io;
 use std::process::ExitCode;
+use std::{env, io};
 
 /// The status where memory is wanted before the words are known.
 const OUT_OF_MEMORY: u8 = 70;
