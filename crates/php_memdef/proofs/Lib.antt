@@ -16,3 +16,7 @@ pub mod KeptLemmas
 pub mod KeptWriteLemmas
 pub mod KeptReleaseLemmas
 pub mod EndLemmas
+pub mod FormedLemmas
+pub mod FormedCopyLemmas
+pub mod FormedWriteLemmas
+pub mod FormedReleaseLemmas
