@@ -20,3 +20,5 @@ pub mod FormedLemmas
 pub mod FormedCopyLemmas
 pub mod FormedWriteLemmas
 pub mod FormedReleaseLemmas
+pub mod HeldLemmas
+pub mod HeldTemporaryLemmas

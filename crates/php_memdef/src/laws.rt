@@ -1,15 +1,16 @@
 // What holds of the model alone. Each function says it in its contract, and its body is empty.
-ghost use Rattle.std.specs.Prelude.{◌≡◌, ℕ, Bool, Option, []};
+ghost use Rattle.std.specs.Prelude.{◌≡◌, ℕ, Bool, Option, [], None};
 ghost use Rattle.php_value.specs.declared.scalar.Scalar.{Scalar};
 ghost use Rattle.php_memdef.specs.declared.place.Place.{Place};
 ghost use Rattle.php_memdef.specs.declared.answer.Peek.{Peek};
 ghost use Rattle.php_memdef.specs.declared.answer.Fallen.TheVariants.{Nothing};
 ghost use Rattle.php_memdef.specs.Contents.{Mem, scope_of};
+ghost use Rattle.php_memdef.specs.Numbered.{numbered};
 ghost use Rattle.php_memdef.specs.Alike.{Alike};
 ghost use Rattle.php_memdef.specs.Holders.{vslots};
 ghost use Rattle.php_memdef.specs.Views.{Shows, found, later_entry, is_aliased, temps_count, cost_of};
 ghost use Rattle.php_memdef.specs.Conditions.{AreKeysWithin, IsBlock, IsObject, IsPlace, CanLeave, CanPush, CanPushArray, CanPushObject, CanCopy, CanAssign, CanLink, CanBind, CanSettle, CanPass, CanUnset, CanUnsetLast, CanForget, CanDropTop, CanMakeObject, CanClone, CanAttach};
-ghost use Rattle.php_memdef.specs.Laws.{AnswersAlike, HoldsAlike, KeepsClosed, KeepsFormed, RespectsAlike, ShowsAlike};
+ghost use Rattle.php_memdef.specs.Laws.{AnswersAlike, HoldsAlike, KeepsClosed, KeepsFormed, KeepsHeld, RespectsAlike, ShowsAlike};
 ghost use Rattle.php_memdef.specs.Temporaries as temporaries;
 ghost use Rattle.php_memdef.specs.Writes as writes;
 ghost use Rattle.php_memdef.specs.Releases as releases;
@@ -179,4 +180,17 @@ pub fn releases_keep_formed()
     ensures spare { (h : ℕ) → KeepsFormed (λ m. IsObject m h) (λ m. objects.spare m h) }
     ensures attach { (h : ℕ) (frame : Option ℕ) →
         KeepsFormed (CanAttach h frame) (λ m. objects.attach m h frame) }
+{}
+
+/// What is there has a holder after each operation too, where it had one and the operation's
+/// condition holds.
+pub fn temporaries_keep_held()
+    ensures enter { (b room : ℕ) →
+        KeepsHeld (λ m. numbered m.blocks b ≡ None) (λ m. temporaries.enter m b room) }
+    ensures push { (b : ℕ) (v : Scalar) → KeepsHeld (CanPush b v) (λ m. temporaries.push m b v) }
+    ensures push_array { (b : ℕ) → KeepsHeld (CanPushArray b) (λ m. temporaries.push_array m b) }
+    ensures push_object { (b h : ℕ) →
+        KeepsHeld (CanPushObject b h) (λ m. temporaries.push_object m b h) }
+    ensures pass { (b c : ℕ) → KeepsHeld (CanPass b c) (λ m. temporaries.pass m b c) }
+    ensures drop_top { (b : ℕ) → KeepsHeld (CanDropTop b) (λ m. temporaries.drop_top m b) }
 {}
