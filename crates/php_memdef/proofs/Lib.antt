@@ -16,3 +16,9 @@ pub mod KeptLemmas
 pub mod KeptWriteLemmas
 pub mod KeptReleaseLemmas
 pub mod EndLemmas
+pub mod FormedLemmas
+pub mod FormedCopyLemmas
+pub mod FormedWriteLemmas
+pub mod FormedReleaseLemmas
+pub mod HeldLemmas
+pub mod HeldTemporaryLemmas

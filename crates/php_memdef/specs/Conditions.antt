@@ -2,6 +2,8 @@
 use Rattle.std.specs.Prelude.{◌≡◌, ◌≢◌, ℕ, ◌<◌, List, [], ◌∷◌, length, Option, Some, IsSome}
 use Rattle.php_value.specs.declared.scalar.Scalar.{Scalar}
 use Rattle.php_value.specs.declared.scalar.Scalar.TheVariants as scalar
+use Rattle.php_entries.specs.Listing.{KEY_LIMIT}
+use Rattle.php_entries.specs.Soundness.{IsKeyBelow}
 use Rattle.php_memdef.specs.declared.place.Base.{Base}
 use Rattle.php_memdef.specs.declared.place.Base.TheVariants.{Var, Property, Static, Temp}
 use Rattle.php_memdef.specs.declared.place.Step.{Step}
@@ -180,3 +182,9 @@ pub record CanAttach (h : ℕ) (frame : Option ℕ) (m : Mem) : Type 0 where
   pub object : IsObject m h
   pub frame_live : (b : ℕ) → frame ≡ Some b → IsBlock m b
   pub frame_apart : (b g : ℕ) → frame ≡ Some b → (object_of m g).frame ≡ Some b → g ≡ h
+
+-- the int keys of a path are integers of 64 bits, as those of a place in the program always are
+abbrev pub AreKeysWithin : List Step → Type 0
+AreKeysWithin [] = Unit {0}
+AreKeysWithin (At k ∷ path) = IsKeyBelow KEY_LIMIT k × AreKeysWithin path
+AreKeysWithin (Push ∷ path) = AreKeysWithin path

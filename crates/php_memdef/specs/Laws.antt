@@ -2,7 +2,7 @@
 -- in the first of them is there, as in every memory that the operations lead to.
 use Rattle.std.specs.Prelude.{◌≡◌}
 use Rattle.php_memdef.specs.Contents.{Mem}
-use Rattle.php_memdef.specs.Sound.{IsClosed}
+use Rattle.php_memdef.specs.Sound.{IsClosed, IsFormed, IsHeld}
 use Rattle.php_memdef.specs.Alike.{Alike}
 
 -- alike memories become alike memories
@@ -24,3 +24,11 @@ HoldsAlike P = (m n : Mem) → Alike m n → P m → P n
 -- where every named store is there, it is so afterwards
 abbrev pub KeepsClosed : (Mem → Mem) → Type 0
 KeepsClosed op = (m : Mem) → IsClosed m → IsClosed (op m)
+
+-- each part is as it should be afterwards, where the operation may be called
+abbrev pub KeepsFormed : (Mem → Type 0) → (Mem → Mem) → Type 0
+KeepsFormed Can op = (m : Mem) → IsFormed m → Can m → IsFormed (op m)
+
+-- what is there has a holder afterwards too, where the operation may be called
+abbrev pub KeepsHeld : (Mem → Type 0) → (Mem → Mem) → Type 0
+KeepsHeld Can op = (m : Mem) → IsHeld m → Can m → IsHeld (op m)

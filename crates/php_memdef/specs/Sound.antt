@@ -83,12 +83,14 @@ pub record IsClosed (m : Mem) : Type 0 where
   pub blocks : (b : ℕ) (f : Scope) → numbered m.blocks b ≡ Some f → Every (IsLive m) (stores_of_scope f)
   pub statics : (i s : ℕ) → numbered m.statics i ≡ Some s → IsLive m s
 
-pub record IsSound (m : Mem) : Type 0 where
-  pub closed : IsClosed m
-  -- what is there has a holder, and objects that have one are there
-  pub stores_held : (s : ℕ) → IsSome (numbered m.stores s) → 0 < holders m s
+-- what is there has a holder, and objects that have one are there
+pub record IsHeld (m : Mem) : Type 0 where
+  pub stores : (s : ℕ) → IsSome (numbered m.stores s) → 0 < holders m s
   pub objects_live : (h : ℕ) → 0 < object_holders m h → IsSome (numbered m.objects h)
   pub objects_held : (h : ℕ) → IsSome (numbered m.objects h) → 0 < object_holders m h
+
+-- each part is as it should be
+pub record IsFormed (m : Mem) : Type 0 where
   pub frames_live : (h b : ℕ) → (object_of m h).frame ≡ Some b → IsSome (numbered m.blocks b)
   -- no two objects have one frame
   pub frames_apart : (g h b : ℕ) → (object_of m g).frame ≡ Some b → (object_of m h).frame ≡ Some b → g ≡ h
@@ -97,3 +99,8 @@ pub record IsSound (m : Mem) : Type 0 where
   pub scopes : (b : ℕ) (f : Scope) → numbered m.blocks b ≡ Some f → IsSoundScope f
   pub object_numbers : (h : ℕ) → IsSome (numbered m.objects h) → h < m.next_object
   pub next_object_within : m.next_object ≤ OBJECT_LIMIT
+
+pub record IsSound (m : Mem) : Type 0 where
+  pub closed : IsClosed m
+  pub held : IsHeld m
+  pub formed : IsFormed m

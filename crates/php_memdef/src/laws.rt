@@ -1,15 +1,16 @@
 // What holds of the model alone. Each function says it in its contract, and its body is empty.
-ghost use Rattle.std.specs.Prelude.{◌≡◌, ℕ, Bool, Option, []};
+ghost use Rattle.std.specs.Prelude.{◌≡◌, ℕ, Bool, Option, [], None};
 ghost use Rattle.php_value.specs.declared.scalar.Scalar.{Scalar};
 ghost use Rattle.php_memdef.specs.declared.place.Place.{Place};
 ghost use Rattle.php_memdef.specs.declared.answer.Peek.{Peek};
 ghost use Rattle.php_memdef.specs.declared.answer.Fallen.TheVariants.{Nothing};
 ghost use Rattle.php_memdef.specs.Contents.{Mem, scope_of};
+ghost use Rattle.php_memdef.specs.Numbered.{numbered};
 ghost use Rattle.php_memdef.specs.Alike.{Alike};
 ghost use Rattle.php_memdef.specs.Holders.{vslots};
 ghost use Rattle.php_memdef.specs.Views.{Shows, found, later_entry, is_aliased, temps_count, cost_of};
-ghost use Rattle.php_memdef.specs.Conditions.{IsBlock, IsPlace, CanLeave, CanPush, CanPushArray, CanPushObject, CanCopy, CanAssign, CanLink, CanBind, CanSettle, CanPass, CanUnset, CanUnsetLast, CanForget, CanDropTop, CanMakeObject, CanClone, CanAttach};
-ghost use Rattle.php_memdef.specs.Laws.{AnswersAlike, HoldsAlike, KeepsClosed, RespectsAlike, ShowsAlike};
+ghost use Rattle.php_memdef.specs.Conditions.{AreKeysWithin, IsBlock, IsObject, IsPlace, CanLeave, CanPush, CanPushArray, CanPushObject, CanCopy, CanAssign, CanLink, CanBind, CanSettle, CanPass, CanUnset, CanUnsetLast, CanForget, CanDropTop, CanMakeObject, CanClone, CanAttach};
+ghost use Rattle.php_memdef.specs.Laws.{AnswersAlike, HoldsAlike, KeepsClosed, KeepsFormed, KeepsHeld, RespectsAlike, ShowsAlike};
 ghost use Rattle.php_memdef.specs.Temporaries as temporaries;
 ghost use Rattle.php_memdef.specs.Writes as writes;
 ghost use Rattle.php_memdef.specs.Releases as releases;
@@ -134,4 +135,62 @@ pub fn operations_keep_closed()
 pub fn releases_end()
     ensures { (m : Mem) (b : ℕ) →
         (releases.fall m b).1 ≡ Nothing → (scope_of (releases.fall m b).0 b).falling ≡ [] }
+{}
+
+/// After each operation each part is as it should be, where it was so and the operation's condition
+/// holds.
+pub fn temporaries_keep_formed()
+    ensures enter { (b room : ℕ) → KeepsFormed (λ m. Unit {0}) (λ m. temporaries.enter m b room) }
+    ensures leave { (b : ℕ) → KeepsFormed (CanLeave b) (λ m. temporaries.leave m b) }
+    ensures push { (b : ℕ) (v : Scalar) →
+        KeepsFormed (CanPush b v) (λ m. temporaries.push m b v) }
+    ensures push_array { (b : ℕ) → KeepsFormed (CanPushArray b) (λ m. temporaries.push_array m b) }
+    ensures push_object { (b h : ℕ) →
+        KeepsFormed (CanPushObject b h) (λ m. temporaries.push_object m b h) }
+    ensures pass { (b c : ℕ) → KeepsFormed (CanPass b c) (λ m. temporaries.pass m b c) }
+    ensures drop_top { (b : ℕ) → KeepsFormed (CanDropTop b) (λ m. temporaries.drop_top m b) }
+    ensures copy { (b : ℕ) (p : Place) →
+        KeepsFormed (CanCopy b p) (λ m. (temporaries.copy m b p).0) }
+    ensures settle { (b : ℕ) → KeepsFormed (CanSettle b) (λ m. temporaries.settle m b) }
+{}
+
+/// The same of writes and removals, at places whose int keys are integers of 64 bits.
+pub fn writes_keep_formed()
+    ensures assign { (b : ℕ) (p : Place) → AreKeysWithin p.path →
+        KeepsFormed (CanAssign b p) (λ m. (writes.assign m b p).0) }
+    ensures link { (b : ℕ) (p : Place) → AreKeysWithin p.path →
+        KeepsFormed (CanLink b p) (λ m. (writes.make_link m b p).0) }
+    ensures bind { (b : ℕ) (p : Place) → AreKeysWithin p.path →
+        KeepsFormed (CanBind b p) (λ m. (writes.bind m b p).0) }
+    ensures unset { (b : ℕ) (p : Place) → KeepsFormed (CanUnset b p) (λ m. writes.unset m b p) }
+    ensures unset_last { (b : ℕ) (p : Place) →
+        KeepsFormed (CanUnsetLast b p) (λ m. writes.unset_last m b p) }
+    ensures forget { (b n : ℕ) → KeepsFormed (CanForget b) (λ m. writes.forget m b n) }
+    ensures shed { (b : ℕ) → KeepsFormed (CanForget b) (λ m. (writes.shed m b).0) }
+{}
+
+/// The same of releases and of the operations on objects.
+pub fn releases_keep_formed()
+    ensures fall { (b : ℕ) → KeepsFormed (λ m. IsBlock m b) (λ m. (releases.fall m b).0) }
+    ensures object { (b class : ℕ) (finishing : Bool) →
+        KeepsFormed (CanMakeObject b) (λ m. (objects.make_object m b class finishing).0) }
+    ensures clone_object { (b : ℕ) →
+        KeepsFormed (CanClone b) (λ m. (objects.clone_object m b).0) }
+    ensures finish { (h : ℕ) → KeepsFormed (λ m. IsObject m h) (λ m. objects.finish m h) }
+    ensures spare { (h : ℕ) → KeepsFormed (λ m. IsObject m h) (λ m. objects.spare m h) }
+    ensures attach { (h : ℕ) (frame : Option ℕ) →
+        KeepsFormed (CanAttach h frame) (λ m. objects.attach m h frame) }
+{}
+
+/// What is there has a holder after each operation too, where it had one and the operation's
+/// condition holds.
+pub fn temporaries_keep_held()
+    ensures enter { (b room : ℕ) →
+        KeepsHeld (λ m. numbered m.blocks b ≡ None) (λ m. temporaries.enter m b room) }
+    ensures push { (b : ℕ) (v : Scalar) → KeepsHeld (CanPush b v) (λ m. temporaries.push m b v) }
+    ensures push_array { (b : ℕ) → KeepsHeld (CanPushArray b) (λ m. temporaries.push_array m b) }
+    ensures push_object { (b h : ℕ) →
+        KeepsHeld (CanPushObject b h) (λ m. temporaries.push_object m b h) }
+    ensures pass { (b c : ℕ) → KeepsHeld (CanPass b c) (λ m. temporaries.pass m b c) }
+    ensures drop_top { (b : ℕ) → KeepsHeld (CanDropTop b) (λ m. temporaries.drop_top m b) }
 {}
