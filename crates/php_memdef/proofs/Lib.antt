@@ -22,3 +22,5 @@ pub mod FormedWriteLemmas
 pub mod FormedReleaseLemmas
 pub mod HeldLemmas
 pub mod HeldTemporaryLemmas
+pub mod HeldWriteLemmas
+pub mod HeldRemovalLemmas

@@ -7,6 +7,7 @@ ghost use Rattle.php_memdef.specs.declared.answer.Fallen.TheVariants.{Nothing};
 ghost use Rattle.php_memdef.specs.Contents.{Mem, scope_of};
 ghost use Rattle.php_memdef.specs.Numbered.{numbered};
 ghost use Rattle.php_memdef.specs.Alike.{Alike};
+ghost use Rattle.php_memdef.specs.Sound.{IsClosed};
 ghost use Rattle.php_memdef.specs.Holders.{vslots};
 ghost use Rattle.php_memdef.specs.Views.{Shows, found, later_entry, is_aliased, temps_count, cost_of};
 ghost use Rattle.php_memdef.specs.Conditions.{AreKeysWithin, IsBlock, IsObject, IsPlace, CanLeave, CanPush, CanPushArray, CanPushObject, CanCopy, CanAssign, CanLink, CanBind, CanSettle, CanPass, CanUnset, CanUnsetLast, CanForget, CanDropTop, CanMakeObject, CanClone, CanAttach};
@@ -193,4 +194,20 @@ pub fn temporaries_keep_held()
         KeepsHeld (CanPushObject b h) (λ m. temporaries.push_object m b h) }
     ensures pass { (b c : ℕ) → KeepsHeld (CanPass b c) (λ m. temporaries.pass m b c) }
     ensures drop_top { (b : ℕ) → KeepsHeld (CanDropTop b) (λ m. temporaries.drop_top m b) }
+{}
+
+/// The same of writes and removals, where each store that is named is there too.
+pub fn writes_keep_held()
+    ensures assign { (b : ℕ) (p : Place) →
+        KeepsHeld (λ m. IsClosed m × CanAssign b p m) (λ m. (writes.assign m b p).0) }
+    ensures link { (b : ℕ) (p : Place) →
+        KeepsHeld (λ m. IsClosed m × CanLink b p m) (λ m. (writes.make_link m b p).0) }
+    ensures unset { (b : ℕ) (p : Place) →
+        KeepsHeld (λ m. IsClosed m × CanUnset b p m) (λ m. writes.unset m b p) }
+    ensures unset_last { (b : ℕ) (p : Place) →
+        KeepsHeld (λ m. IsClosed m × CanUnsetLast b p m) (λ m. writes.unset_last m b p) }
+    ensures forget { (b n : ℕ) →
+        KeepsHeld (λ m. IsClosed m × CanForget b m) (λ m. writes.forget m b n) }
+    ensures shed { (b : ℕ) →
+        KeepsHeld (λ m. IsClosed m × CanForget b m) (λ m. (writes.shed m b).0) }
 {}
