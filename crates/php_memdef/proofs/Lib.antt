@@ -24,3 +24,4 @@ pub mod HeldLemmas
 pub mod HeldTemporaryLemmas
 pub mod HeldWriteLemmas
 pub mod HeldRemovalLemmas
+pub mod HeldReleaseLemmas

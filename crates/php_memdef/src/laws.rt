@@ -211,3 +211,12 @@ pub fn writes_keep_held()
     ensures shed { (b : ℕ) →
         KeepsHeld (λ m. IsClosed m × CanForget b m) (λ m. (writes.shed m b).0) }
 {}
+
+/// The same of releases and of the operations on objects.
+pub fn releases_keep_held()
+    ensures fall { (b : ℕ) → KeepsHeld (λ m. IsBlock m b) (λ m. (releases.fall m b).0) }
+    ensures finish { (h : ℕ) → KeepsHeld (λ m. IsObject m h) (λ m. objects.finish m h) }
+    ensures spare { (h : ℕ) → KeepsHeld (λ m. IsObject m h) (λ m. objects.spare m h) }
+    ensures attach { (h : ℕ) (frame : Option ℕ) →
+        KeepsHeld (CanAttach h frame) (λ m. objects.attach m h frame) }
+{}
