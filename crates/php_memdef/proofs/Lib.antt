@@ -25,3 +25,4 @@ pub mod HeldTemporaryLemmas
 pub mod HeldWriteLemmas
 pub mod HeldRemovalLemmas
 pub mod HeldReleaseLemmas
+pub mod HeldCopyLemmas

@@ -194,6 +194,10 @@ pub fn temporaries_keep_held()
         KeepsHeld (CanPushObject b h) (λ m. temporaries.push_object m b h) }
     ensures pass { (b c : ℕ) → KeepsHeld (CanPass b c) (λ m. temporaries.pass m b c) }
     ensures drop_top { (b : ℕ) → KeepsHeld (CanDropTop b) (λ m. temporaries.drop_top m b) }
+    ensures leave { (b : ℕ) → KeepsHeld (CanLeave b) (λ m. temporaries.leave m b) }
+    ensures copy { (b : ℕ) (p : Place) →
+        KeepsHeld (CanCopy b p) (λ m. (temporaries.copy m b p).0) }
+    ensures settle { (b : ℕ) → KeepsHeld (CanSettle b) (λ m. temporaries.settle m b) }
 {}
 
 /// The same of writes and removals, where each store that is named is there too.
