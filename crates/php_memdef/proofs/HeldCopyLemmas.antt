@@ -10,11 +10,11 @@ use Rattle.php_memdef.specs.Contents.{Content, null, truth, int, text, array, ob
 use Rattle.php_memdef.specs.Holders.{times, stores_of_entries, stores_of_content, stores_of_item, stores_of_items, stores_of_variables, stores_of_properties, stores_of_object, stores_of_scope, is_shared, holders, handles_of_content, handles_of_items, handles_of_scope, object_holders}
 use Rattle.php_memdef.specs.Copies.{Copy, Copier, in_new_store, copied_store_if, copied_store, copied_entries, copied_deep, copier_of, copied, copied_properties}
 use Rattle.php_memdef.specs.Places.{Spot, stored, standing, nth_item, content_if, content_at, find_place, with_object}
-use Rattle.php_memdef.specs.Temporaries.{pushed, popped, top, let_fall, leave, pushed_copy, copy_of_spot, copy, settled, settle}
-use Rattle.php_memdef.specs.Objects.{OBJECT_LIMIT, with_new_object, new_object, object_made, make_object}
+use Rattle.php_memdef.specs.Temporaries.{pushed, popped, top_of, top, let_fall, leave, pushed_copy, copy_of_spot, copy, settled, settle}
+use Rattle.php_memdef.specs.Objects.{OBJECT_LIMIT, with_new_object, new_object, object_made, make_object, clone_made, clone_of_top, clone_object}
 use Rattle.php_memdef.specs.Sound.{IsLive, IsHeld, IsFormed}
-use Rattle.php_memdef.specs.Conditions.{IsObject, CanLeave}
-use Rattle.php_memdef.proofs.NumberedLemmas.{numbered-with_same, numbered-with_other, numbered-length, with_next-numbered, total-with}
+use Rattle.php_memdef.specs.Conditions.{IsObject, CanLeave, CanClone}
+use Rattle.php_memdef.proofs.NumberedLemmas.{numbered-with_same, numbered-with_other, numbered-length, with_next-numbered, total-with, live-with}
 use Rattle.php_memdef.proofs.KeptReleaseLemmas.{weight-within}
 use Rattle.php_memdef.proofs.HeldLemmas.{held_after, same_there, weight_of_scope, handles_of_item, times-self, item_times, item_handles, scope_times, scope_handles, holders-with_object, handles-with_object, holders-pushed, handles-pushed, holders-popped, handles-popped, holders-let_fall, handles-let_fall}
 
@@ -233,3 +233,112 @@ module _ (m : Mem) (held : IsHeld m) where
         let l : times x (handles_of_items f.falling) ≡ 0 = ap (λ is. times x (handles_of_items is)) can.no_falling in
         omega (arith, t, l, scope_handles m x f)) in
       held_after m n held (same_there m n (λ s h. h) (λ x. omega (arith, names-left b x, names x)) (λ h e. e) (λ h e. e) (λ x. omega (arith, handles-left b x, handles x)))
+
+-- a new object
+
+free_number : (m : Mem) → IsFormed m → numbered m.objects m.next_object ≡ None
+free_number m formed = by_cases (numbered m.objects m.next_object) refl
+  where
+    by_cases : (o : Option Object) → numbered m.objects m.next_object ≡ o → o ≡ None
+    by_cases None e = refl
+    by_cases (Some x) e = absurd (let h : m.next_object < m.next_object = formed.object_numbers m.next_object (ap is_some e) in omega (arith, h))
+
+module _ (m : Mem) (free : numbered m.objects m.next_object ≡ None) (o : Object) where
+  names-with_new_object : (x : ℕ) → holders (with_new_object m o) x ≡ holders m x + times x (stores_of_object o)
+  unfolding holders
+  names-with_new_object x =
+      let none : weight_if (λ (y : Object). times x (stores_of_object y)) (numbered m.objects m.next_object) ≡ 0 = ap (weight_if (λ (y : Object). times x (stores_of_object y))) free in
+      omega (arith, none, total-with (λ y. times x (stores_of_object y)) m.objects m.next_object (Some o))
+
+  handles-with_new_object : (x : ℕ) → object_holders (with_new_object m o) x ≡ object_holders m x
+  unfolding object_holders
+  handles-with_new_object x = refl
+
+  new_there : IsObject (with_new_object m o) m.next_object
+  new_there = ap is_some (numbered-with_same m.objects m.next_object (Some o))
+
+  before_new : (h : ℕ) → h ≢ m.next_object → IsObject (with_new_object m o) h → IsObject m h
+  before_new h d e = ap is_some (sym (numbered-with_other m.objects m.next_object h (Some o) d)) ∙ e
+
+module _ (m : Mem) (held : IsHeld m) (formed : IsFormed m) where
+  object_made-held : (full : Bool) (b class : ℕ) (finishing : Bool) → IsHeld (object_made full m b class finishing).0
+  object_made-held true b class finishing = held
+  object_made-held false b class finishing =
+      let o = new_object class finishing in
+      let free = free_number m formed in
+      let n' = with_new_object m o in
+      let i : Item = value (object m.next_object) in
+      let n = pushed n' b i in
+      let names : (x : ℕ) → holders n x ≡ holders m x = λ x. omega (arith, holders-pushed n' x b i, names-with_new_object m free o x) in
+      let handles : (x : ℕ) → object_holders n x ≡ object_holders m x + times x (m.next_object ∷ []) = λ x. omega (arith, handles-pushed n' x b i, handles-with_new_object m free o x) in
+      held_after m n held (record {
+        stores = λ s e. inl e;
+        more = λ s e. omega (arith, names s);
+        objects = λ h e. elim (eqb_tells h m.next_object) [
+          | inl d ↦ inr (let one : 0 < times h (m.next_object ∷ []) = subst (λ (j : ℕ). 0 < times h (j ∷ [])) d.1 (times-self h []) in omega (arith, one, handles h))
+          | inr d ↦ inl (before_new m free o h d.1 e)
+        ];
+        more_handles = λ h e. omega (arith, handles h);
+        handles = λ h some. elim (eqb_tells h m.next_object) [
+          | inl d ↦ inr (subst (λ (j : ℕ). IsObject n j) (sym d.1) (new_there m free o))
+          | inr d ↦ inl (let none : times h (m.next_object ∷ []) ≡ 0 = ap (λ c. cond c 1 0 + 0) d.0 in omega (arith, none, some, handles h))
+        ];
+        objects_stay = λ h e some. live-with m.objects m.next_object o h e;
+      })
+
+  pub make_object-held : (b class : ℕ) (finishing : Bool) → IsHeld (make_object m b class finishing).0
+  unfolding make_object
+  make_object-held b class finishing = object_made-held (nat_le OBJECT_LIMIT m.next_object) b class finishing
+
+  clone_made-held : (full : Bool) (b h : ℕ) → top m b ≡ value (object h) → IsHeld (clone_made full m b h).0
+  clone_made-held true b h e = held
+  clone_made-held false b h e =
+      let ps = (object_of m h).properties in
+      let copied = copied_properties (copier_of m) m m.stores ps in
+      let ys = copied.stores in
+      let m' : Mem = record m { stores = ys } in
+      let o : Object = record (object_of m h) { properties = copied.made; spent = false; frame = None } in
+      let free = free_number m formed in
+      let n' = with_new_object m' o in
+      let i : Item = value (object m.next_object) in
+      let last : Item = value (object h) in
+      let p = popped n' b in
+      let q = pushed p b i in
+      let n = let_fall q b last in
+      let k = copied_properties-held m (copier_of m) (copied_deep-held m (live_count m.stores)) m.stores ps in
+      let top_names : (x : ℕ) → times x (stores_of_item (top m b)) ≡ 0 = λ x. ap (λ j. times x (stores_of_item j)) e in
+      let top_handles : (x : ℕ) → times x (handles_of_item (top m b)) ≡ times x (h ∷ []) = λ x. ap (λ j. times x (handles_of_item j)) e in
+      let handles : (x : ℕ) → object_holders n x + handles_in x m.stores ≡ object_holders m x + handles_in x ys + times x (m.next_object ∷ []) = λ x. omega (arith, handles-let_fall q x b last, handles-pushed p x b i, handles-popped n' x b, top_handles x, handles-with_new_object m' free o x, handles-with_stores m ys x) in
+      record {
+        stores = stores_held m held ys (stores_of_properties copied.made) k n (λ s live. live)
+        (λ x. omega (arith, holders-let_fall q x b last, holders-pushed p x b i, holders-popped n' x b, top_names x, names-with_new_object m' free o x, names-with_stores m ys x));
+        objects_live = λ x some. elim (eqb_tells x m.next_object) [
+          | inl d ↦ subst (λ (j : ℕ). IsObject n j) (sym d.1) (new_there m' free o)
+          | inr d ↦ (let none : times x (m.next_object ∷ []) ≡ 0 = ap (λ c. cond c 1 0 + 0) d.0 in
+            live-with m.objects m.next_object o x (held.objects_live x (counted k x (object_holders m x) refl (object_holders n x) some (omega (arith, none, handles x)))))
+        ];
+        objects_held = λ x live. elim (eqb_tells x m.next_object) [
+          | inl d ↦ (let one : 0 < times x (m.next_object ∷ []) = subst (λ (j : ℕ). 0 < times x (j ∷ [])) d.1 (times-self x []) in omega (arith, one, handles x, k.more_handles x))
+          | inr d ↦ (let was : 0 < object_holders m x = held.objects_held x (before_new m' free o x d.1 live) in omega (arith, was, handles x, k.more_handles x))
+        ];
+      }
+    where
+      counted : {ys : Numbered Content} {names : List ℕ} → Copied m m.stores ys names → (x w : ℕ) → object_holders m x ≡ w → (a : ℕ) → 0 < a → a + handles_in x m.stores ≡ object_holders m x + handles_in x ys → 0 < object_holders m x
+      counted k x zero e a some same = absurd (omega (arith, e, some, same, k.handles x e))
+      counted k x (suc w) e a some same = omega (arith, e)
+
+  pub clone_object-held : (b : ℕ) → CanClone b m → IsHeld (clone_object m b).0
+  unfolding clone_object
+  clone_object-held b can =
+      let e = top_is (scope_of m b).temps can.top.0 can.top.1 in
+      subst (λ (i : Item). IsHeld (clone_of_top i m b).0) (sym e) (clone_made-held (nat_le OBJECT_LIMIT m.next_object) b can.top.0 e)
+    where
+      of_some : (i j : Item) → Some i ≡ Some j → i ≡ j
+      of_some i j e = cc
+
+      top_is : (is : List Item) (h : ℕ) → nth_item is 0 ≡ Some (value (object h)) → top_of is ≡ value (object h)
+      top_is [] h e = absurd (no e)
+        where
+          no : None ≡ Some (value (object h)) → ⊥
+          no e = cc
+      top_is (i ∷ is) h e = of_some i (value (object h)) e

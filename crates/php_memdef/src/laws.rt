@@ -7,7 +7,7 @@ ghost use Rattle.php_memdef.specs.declared.answer.Fallen.TheVariants.{Nothing};
 ghost use Rattle.php_memdef.specs.Contents.{Mem, scope_of};
 ghost use Rattle.php_memdef.specs.Numbered.{numbered};
 ghost use Rattle.php_memdef.specs.Alike.{Alike};
-ghost use Rattle.php_memdef.specs.Sound.{IsClosed};
+ghost use Rattle.php_memdef.specs.Sound.{IsClosed, IsFormed};
 ghost use Rattle.php_memdef.specs.Holders.{vslots};
 ghost use Rattle.php_memdef.specs.Views.{Shows, found, later_entry, is_aliased, temps_count, cost_of};
 ghost use Rattle.php_memdef.specs.Conditions.{AreKeysWithin, IsBlock, IsObject, IsPlace, CanLeave, CanPush, CanPushArray, CanPushObject, CanCopy, CanAssign, CanLink, CanBind, CanSettle, CanPass, CanUnset, CanUnsetLast, CanForget, CanDropTop, CanMakeObject, CanClone, CanAttach};
@@ -219,6 +219,10 @@ pub fn writes_keep_held()
 /// The same of releases and of the operations on objects.
 pub fn releases_keep_held()
     ensures fall { (b : ℕ) → KeepsHeld (λ m. IsBlock m b) (λ m. (releases.fall m b).0) }
+    ensures object { (b class : ℕ) (finishing : Bool) →
+        KeepsHeld (λ m. IsFormed m × CanMakeObject b m) (λ m. (objects.make_object m b class finishing).0) }
+    ensures clone_object { (b : ℕ) →
+        KeepsHeld (λ m. IsFormed m × CanClone b m) (λ m. (objects.clone_object m b).0) }
     ensures finish { (h : ℕ) → KeepsHeld (λ m. IsObject m h) (λ m. objects.finish m h) }
     ensures spare { (h : ℕ) → KeepsHeld (λ m. IsObject m h) (λ m. objects.spare m h) }
     ensures attach { (h : ℕ) (frame : Option ℕ) →
