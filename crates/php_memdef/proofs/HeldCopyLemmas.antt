@@ -1,22 +1,21 @@
 -- Copies keep what is there held, and so do the operations that make objects and leave blocks.
-use Rattle.std.proofs.Common.{◌≡◌, ◌≢◌, ℕ, zero, suc, ◌+◌, ◌<◌, ◌≤◌, List, [], ◌∷◌, ◌++◌, length, refl, sym, ◌∙◌, ap, subst, arith, ◌⊎◌, inl, inr, cond}
+use Rattle.std.proofs.Common.{◌≡◌, ◌≢◌, ℕ, zero, suc, ◌+◌, ◌<◌, ◌≤◌, List, [], ◌∷◌, length, refl, sym, ◌∙◌, ap, subst, arith, ◌⊎◌, inl, inr, cond}
 use Rattle.std.specs.Prelude.{Bool, true, false, nat_le, Option, Some, None, IsSome, is_some, unwrap_or}
-use Rattle.std.proofs.lemmas.Bool.{false≢true}
 use Rattle.std.proofs.lemmas.Bool.Decides.{eqb_tells}
 use Rattle.php_entries.specs.Listing.{Entry}
 use Rattle.php_memdef.specs.declared.place.Place.{Place}
 use Rattle.php_memdef.specs.Numbered.{Numbered, numbered, with_numbered, with_next, weight_if, total, live_count}
-use Rattle.php_memdef.specs.Contents.{Content, null, truth, int, text, array, object, Item, value, link, Property, Scope, Object, Mem, no_scope, no_object, content_of, scope_of, object_of}
+use Rattle.php_memdef.specs.Contents.{Content, null, truth, int, text, array, object, Item, value, link, Property, Scope, Object, Mem, no_scope, content_of, scope_of, object_of}
 use Rattle.php_memdef.specs.Holders.{times, stores_of_entries, stores_of_content, stores_of_item, stores_of_items, stores_of_variables, stores_of_properties, stores_of_object, stores_of_scope, is_shared, holders, handles_of_content, handles_of_items, handles_of_scope, object_holders}
-use Rattle.php_memdef.specs.Copies.{Copy, Copier, in_new_store, copied_store_if, copied_store, copied_entries, copied_deep, copier_of, copied, copied_properties}
-use Rattle.php_memdef.specs.Places.{Spot, stored, standing, nth_item, content_if, content_at, find_place, with_object}
+use Rattle.php_memdef.specs.Copies.{Copier, copied_store_if, copied_store, copied_entries, copied_deep, copier_of, copied, copied_properties}
+use Rattle.php_memdef.specs.Places.{Spot, stored, standing, nth_item, content_if, content_at, find_place}
 use Rattle.php_memdef.specs.Temporaries.{pushed, popped, top_of, top, let_fall, leave, pushed_copy, copy_of_spot, copy, settled, settle}
 use Rattle.php_memdef.specs.Objects.{OBJECT_LIMIT, with_new_object, new_object, object_made, make_object, clone_made, clone_of_top, clone_object}
 use Rattle.php_memdef.specs.Sound.{IsLive, IsHeld, IsFormed}
 use Rattle.php_memdef.specs.Conditions.{IsObject, CanLeave, CanClone}
 use Rattle.php_memdef.proofs.NumberedLemmas.{numbered-with_same, numbered-with_other, numbered-length, with_next-numbered, total-with, live-with}
 use Rattle.php_memdef.proofs.KeptReleaseLemmas.{weight-within}
-use Rattle.php_memdef.proofs.HeldLemmas.{held_after, same_there, weight_of_scope, handles_of_item, times-self, item_times, item_handles, scope_times, scope_handles, holders-with_object, handles-with_object, holders-pushed, handles-pushed, holders-popped, handles-popped, holders-let_fall, handles-let_fall}
+use Rattle.php_memdef.proofs.HeldLemmas.{held_after, same_there, weight_of_scope, handles_of_item, times-self, item_handles, scope_times, scope_handles, holders-pushed, handles-pushed, holders-popped, handles-popped, holders-let_fall, handles-let_fall}
 
 -- how often contents name a store, an object
 
@@ -224,14 +223,14 @@ module _ (m : Mem) (held : IsHeld m) where
       let f = scope_of m b in
       let n : Mem = record m { blocks = with_numbered m.blocks b None } in
       let names : (x : ℕ) → times x (stores_of_scope f) ≡ 0 = λ x. (
-        let v : times x (stores_of_variables f.variables) ≡ 0 = ap (λ vs. times x (stores_of_variables vs)) can.no_variables in
-        let t : times x (stores_of_items f.temps) ≡ 0 = ap (λ is. times x (stores_of_items is)) can.no_temps in
-        let l : times x (stores_of_items f.falling) ≡ 0 = ap (λ is. times x (stores_of_items is)) can.no_falling in
-        omega (arith, v, t, l, scope_times m x f)) in
+      let v : times x (stores_of_variables f.variables) ≡ 0 = ap (λ vs. times x (stores_of_variables vs)) can.no_variables in
+      let t : times x (stores_of_items f.temps) ≡ 0 = ap (λ is. times x (stores_of_items is)) can.no_temps in
+      let l : times x (stores_of_items f.falling) ≡ 0 = ap (λ is. times x (stores_of_items is)) can.no_falling in
+      omega (arith, v, t, l, scope_times m x f)) in
       let handles : (x : ℕ) → times x (handles_of_scope f) ≡ 0 = λ x. (
-        let t : times x (handles_of_items f.temps) ≡ 0 = ap (λ is. times x (handles_of_items is)) can.no_temps in
-        let l : times x (handles_of_items f.falling) ≡ 0 = ap (λ is. times x (handles_of_items is)) can.no_falling in
-        omega (arith, t, l, scope_handles m x f)) in
+      let t : times x (handles_of_items f.temps) ≡ 0 = ap (λ is. times x (handles_of_items is)) can.no_temps in
+      let l : times x (handles_of_items f.falling) ≡ 0 = ap (λ is. times x (handles_of_items is)) can.no_falling in
+      omega (arith, t, l, scope_handles m x f)) in
       held_after m n held (same_there m n (λ s h. h) (λ x. omega (arith, names-left b x, names x)) (λ h e. e) (λ h e. e) (λ x. omega (arith, handles-left b x, handles x)))
 
 -- a new object
@@ -311,11 +310,11 @@ module _ (m : Mem) (held : IsHeld m) (formed : IsFormed m) where
       let handles : (x : ℕ) → object_holders n x + handles_in x m.stores ≡ object_holders m x + handles_in x ys + times x (m.next_object ∷ []) = λ x. omega (arith, handles-let_fall q x b last, handles-pushed p x b i, handles-popped n' x b, top_handles x, handles-with_new_object m' free o x, handles-with_stores m ys x) in
       record {
         stores = stores_held m held ys (stores_of_properties copied.made) k n (λ s live. live)
-        (λ x. omega (arith, holders-let_fall q x b last, holders-pushed p x b i, holders-popped n' x b, top_names x, names-with_new_object m' free o x, names-with_stores m ys x));
+            (λ x. omega (arith, holders-let_fall q x b last, holders-pushed p x b i, holders-popped n' x b, top_names x, names-with_new_object m' free o x, names-with_stores m ys x));
         objects_live = λ x some. elim (eqb_tells x m.next_object) [
           | inl d ↦ subst (λ (j : ℕ). IsObject n j) (sym d.1) (new_there m' free o)
           | inr d ↦ (let none : times x (m.next_object ∷ []) ≡ 0 = ap (λ c. cond c 1 0 + 0) d.0 in
-            live-with m.objects m.next_object o x (held.objects_live x (counted k x (object_holders m x) refl (object_holders n x) some (omega (arith, none, handles x)))))
+              live-with m.objects m.next_object o x (held.objects_live x (counted k x (object_holders m x) refl (object_holders n x) some (omega (arith, none, handles x)))))
         ];
         objects_held = λ x live. elim (eqb_tells x m.next_object) [
           | inl d ↦ (let one : 0 < times x (m.next_object ∷ []) = subst (λ (j : ℕ). 0 < times x (j ∷ [])) d.1 (times-self x []) in omega (arith, one, handles x, k.more_handles x))

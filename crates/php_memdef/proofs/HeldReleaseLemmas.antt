@@ -1,20 +1,20 @@
 -- A release, and the operations on objects, keep what is there held.
-use Rattle.std.proofs.Common.{◌≡◌, ◌≢◌, ℕ, zero, suc, ◌+◌, ◌<◌, ◌≤◌, List, [], ◌∷◌, ◌++◌, refl, sym, ◌∙◌, ap, subst, arith, ◌⊎◌, inl, inr, cond}
-use Rattle.std.specs.Prelude.{Bool, true, false, ◌&&◌, not, nat_le, Option, Some, None, IsSome, is_some}
+use Rattle.std.proofs.Common.{◌≡◌, ℕ, zero, suc, ◌+◌, ◌<◌, List, [], ◌∷◌, ◌++◌, refl, sym, ◌∙◌, ap, subst, arith, inl, inr, cond}
+use Rattle.std.specs.Prelude.{Bool, true, false, ◌&&◌, not, Option, Some, None, is_some}
 use Rattle.std.proofs.lemmas.Bool.{leb-true, leb-false, false≢true}
 use Rattle.std.proofs.lemmas.Bool.Decides.{eqb_tells}
 use Rattle.php_entries.specs.Listing.{Entry}
 use Rattle.php_memdef.specs.Numbered.{numbered, with_numbered}
-use Rattle.php_memdef.specs.Contents.{Content, null, truth, int, text, array, object, Item, value, link, Property, Scope, Object, Mem, no_scope, content_of, scope_of, object_of}
-use Rattle.php_memdef.specs.Holders.{times, stores_of_entries, stores_of_item, stores_of_items, stores_of_properties, stores_of_object, stores_of_scope, holders, handles_of_items, handles_of_scope, object_holders}
+use Rattle.php_memdef.specs.Contents.{null, truth, int, text, array, object, Item, value, link, Property, Object, Mem, content_of, scope_of, object_of}
+use Rattle.php_memdef.specs.Holders.{times, stores_of_entries, stores_of_item, stores_of_items, stores_of_properties, stores_of_object, holders, handles_of_items, object_holders}
 use Rattle.php_memdef.specs.Places.{with_object}
-use Rattle.php_memdef.specs.Temporaries.{with_falling, fallen, leave}
+use Rattle.php_memdef.specs.Temporaries.{with_falling, fallen}
 use Rattle.php_memdef.specs.Releases.{entry_links, property_links, Turn, goes_on, stops, link_dropped, object_removed, object_released, handle_dropped, is_held, is_object_held, item_released, first_released, turn, fall_after, fall_within, turns, fall}
 use Rattle.php_memdef.specs.Objects.{finish, spare, attach}
-use Rattle.php_memdef.specs.Sound.{IsLive, IsHeld}
+use Rattle.php_memdef.specs.Sound.{IsHeld}
 use Rattle.php_memdef.specs.Conditions.{IsObject}
 use Rattle.php_memdef.proofs.NumberedLemmas.{numbered-with_same, numbered-with_other, live-with}
-use Rattle.php_memdef.proofs.HeldLemmas.{held_after, same_there, handles_of_item, times-append, item_times, item_handles, items_times, items_handles, fallen_times, fallen_handles, holders-with_store, handles-with_store, holders-with_object, handles-with_object, holders-with_falling, handles-with_falling}
+use Rattle.php_memdef.proofs.HeldLemmas.{held_after, same_there, handles_of_item, item_times, item_handles, items_times, items_handles, fallen_times, fallen_handles, holders-with_store, handles-with_store, holders-with_object, handles-with_object, holders-with_falling, handles-with_falling}
 use Rattle.php_memdef.proofs.HeldWriteLemmas.{weight_of_live}
 
 entry_links_times : (x : ℕ) (es : List (Entry ℕ)) → times x (stores_of_items (entry_links es)) ≡ times x (stores_of_entries es)
@@ -32,7 +32,6 @@ property_links_times x (p ∷ ps) = omega (arith, item_times x (link p.store) (p
 property_links_handles : (x : ℕ) (ps : List Property) → times x (handles_of_items (property_links ps)) ≡ 0
 property_links_handles x [] = refl
 property_links_handles x (p ∷ ps) = property_links_handles x ps
-
 
 -- an object that is changed, with the same properties
 module _ (m : Mem) (held : IsHeld m) where

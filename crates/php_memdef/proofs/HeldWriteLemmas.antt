@@ -36,7 +36,7 @@ pub record Grows (m n : Mem) : Type 0 where
   pub objects_stay : (h : ℕ) → IsObject m h → IsObject n h
   pub handles : (h : ℕ) → object_holders n h ≡ object_holders m h
 
-Grows-refl : (m : Mem) → Grows m m
+pub Grows-refl : (m : Mem) → Grows m m
 Grows-refl m = record { stores = λ s h. inl h; more = λ s. omega arith; objects = λ h e. e; objects_stay = λ h e. e; handles = λ h. refl }
 
 Grows-trans : (l m n : Mem) → Grows l m → Grows m n → Grows l n
@@ -168,11 +168,11 @@ module _ (x : ℕ) where
       omega (arith, handles-with_temps m x b (with_nth_item is k (value c)), nth_handles is k c h.0 h.1, there)
 
 -- the elements that a write goes on in name what the content names
-abbrev ElementsOf : Content → Option (Listing ℕ) → Type 0
+abbrev pub ElementsOf : Content → Option (Listing ℕ) → Type 0
 ElementsOf c None = Unit {0}
 ElementsOf c (Some t) = (stores_of_content c ≡ stores_of_entries t.entries) × (handles_of_content c ≡ [])
 
-elements_written : (c : Content) → ElementsOf c (elements_to_write c)
+pub elements_written : (c : Content) → ElementsOf c (elements_to_write c)
 elements_written null = (refl, refl)
 elements_written (truth b) = tt
 elements_written (int i) = tt
@@ -217,8 +217,33 @@ IsThere m (standing b k) = Unit {0}
 pub there_of : (m : Mem) (spot : Spot) (s : ℕ) → stored s ≡ spot → IsThere m spot → IsLive m s
 there_of m spot s e h = let P : Spot → Type 0 = IsThere m in subst P (sym e) h
 
+-- links on top stay there
+abbrev pub KeepsTopLinks : Mem → Mem → Type 0
+KeepsTopLinks m n = (b s : ℕ) → top m b ≡ link s → top n b ≡ link s
+
+pub top_link_kept : (m : Mem) (spot : Spot) → IsReal m spot → (c : Content) → KeepsTopLinks m (with_content m spot c)
+top_link_kept m (stored j) real c b s e = e
+top_link_kept m (standing k j) real c b s e = elim (eqb_tells b k) [
+  | inl d ↦ ap (λ x. top (with_content m (standing k j) c) x) d.1 ∙ ap (λ o. top_of (unwrap_or o no_scope).temps) (numbered-with_same m.blocks k (Some (record (scope_of m k) { temps = with_nth_item (scope_of m k).temps j (value c) }))) ∙ kept (scope_of m k).temps j real.0 real.1 (sym (ap (λ x. top m x) d.1) ∙ e)
+  | inr d ↦ ap (λ o. top_of (unwrap_or o no_scope).temps) (numbered-with_other m.blocks k b (Some (record (scope_of m k) { temps = with_nth_item (scope_of m k).temps j (value c) })) d.1) ∙ e
+]
+  where
+    kept : (is : List Item) (j : ℕ) (d : Content) → nth_item is j ≡ Some (value d) → top_of is ≡ link s → top_of (with_nth_item is j (value c)) ≡ link s
+    kept [] j d p q = q
+    kept (i ∷ is) zero d p q = absurd (no p q)
+      where
+        no : Some i ≡ Some (value d) → i ≡ link s → ⊥
+        no p q = cc
+    kept (i ∷ is) (suc j) d p q = q
+
+pub top_with_variables : (m : Mem) (k b : ℕ) (vs : List Variable) → top (with_scope m k (record (scope_of m k) { variables = vs })) b ≡ top m b
+top_with_variables m k b vs = elim (eqb_tells b k) [
+  | inl d ↦ ap (λ x. top (with_scope m k (record (scope_of m k) { variables = vs })) x) d.1 ∙ ap (λ o. top_of (unwrap_or o no_scope).temps) (numbered-with_same m.blocks k (Some (record (scope_of m k) { variables = vs }))) ∙ sym (ap (λ x. top m x) d.1)
+  | inr d ↦ ap (λ o. top_of (unwrap_or o no_scope).temps) (numbered-with_other m.blocks k b (Some (record (scope_of m k) { variables = vs })) d.1)
+]
+
 abbrev pub WalkHeld : Mem → Walk → Type 0
-WalkHeld m (reached n spot) = Grows m n × (IsReal n spot × IsThere n spot)
+WalkHeld m (reached n spot) = Grows m n × (IsReal n spot × (IsThere n spot × KeepsTopLinks m n))
 WalkHeld m (stopped why) = Unit {0}
 
 module _ (m : Mem) where
@@ -245,7 +270,7 @@ module _ (m : Mem) where
           objects_stay = λ h e. let P : Numbered Object → Type 0 = λ os. IsSome (numbered os h) in subst P (sym (objects_kept m' spot (array u))) e;
           handles = λ h. omega (arith, handles-with_content h m' spot (real_kept m spot real) (array u), handles-with_new m h null, none h);
         },
-        (tt, stays k),
+        (tt, (stays k, λ b s e. top_link_kept m' spot (real_kept m spot real) (array u) b s e)),
       )
     where
       stays : (k : ℕ) → IsLive (with_content (with_new_store m null) spot (array u)) (new_store_number m)
@@ -260,7 +285,7 @@ module _ (m : Mem) where
 
 module _ (m : Mem) where
   element_to_write-held : (o : Option ℕ) (t : Listing ℕ) (spot : Spot) (step : Step) → step_store t step ≡ o → IsReal m spot → IsThere m spot → ElementsOf (content_at m spot) (Some t) → ((s : ℕ) → o ≡ Some s → IsLive m s) → WalkHeld m (element_to_write o t m spot step)
-  element_to_write-held (Some s) t spot step e real there named live = (Grows-refl m, (tt, live s refl))
+  element_to_write-held (Some s) t spot step e real there named live = (Grows-refl m, (tt, (live s refl, λ b s e. e)))
   element_to_write-held None t spot step e real there named live =
       element_made-held m (step_set t step (new_store_number m)) t spot real there named
       (λ x. let P : Option ℕ → Type 0 = λ o. Grown-times x (step_set t step (new_store_number m)) t o (new_store_number m) in subst P e (step_set-times x t step (new_store_number m)))
@@ -301,7 +326,7 @@ weight_of_live m h live x k e = elim (eqb_tells k h) [
 
 module _ (m : Mem) where
   variable_to_write-held : (o : Option ℕ) (b k : ℕ) → ((s : ℕ) → o ≡ Some s → IsLive m s) → WalkHeld m (variable_to_write o m b k)
-  variable_to_write-held (Some s) b k live = (Grows-refl m, (tt, live s refl))
+  variable_to_write-held (Some s) b k live = (Grows-refl m, (tt, (live s refl, λ b s e. e)))
   variable_to_write-held None b k live =
       let m' = with_new_store m null in
       let s = new_store_number m in
@@ -310,11 +335,11 @@ module _ (m : Mem) where
       let n = with_scope m' b (record (scope_of m' b) { variables = vs ++ v ∷ [] }) in (
         made_named m n (λ s e. e) (λ x. omega (arith, holders-with_variables m' x b (vs ++ v ∷ []), holders-with_new m x null, variables-added x vs v)) (λ h e. e) (λ h e. e)
             (λ h. omega (arith, handles-with_variables m' h b (vs ++ v ∷ []), handles-with_new m h null)),
-        (tt, live_in_new m null),
+        (tt, (live_in_new m null, λ c t e. top_with_variables m' b c (vs ++ v ∷ []) ∙ e)),
       )
 
   property_to_write-held : (o : Option ℕ) (h : ℕ) (p : PropName) → IsObject m h → ((s : ℕ) → o ≡ Some s → IsLive m s) → WalkHeld m (property_to_write o m h p)
-  property_to_write-held (Some s) h p there live = (Grows-refl m, (tt, live s refl))
+  property_to_write-held (Some s) h p there live = (Grows-refl m, (tt, (live s refl, λ b s e. e)))
   property_to_write-held None h p there live =
       let m' = with_new_store m null in
       let s = new_store_number m in
@@ -323,24 +348,24 @@ module _ (m : Mem) where
       let y : Object = record x { properties = x.properties ++ q ∷ [] } in (
         made_named m (with_object m' h y) (λ s e. e) (λ i. omega (arith, holders-with_object m' i h (Some y), holders-with_new m i null, properties-added i x.properties q)) (weight_of_live m h there y) (λ k e. live-with m.objects h y k e)
             (λ k. handles-with_object m' k h (Some y) ∙ (let e : object_holders m' k ≡ object_holders m k = omega (arith, handles-with_new m k null) in e)),
-        (tt, live_in_new m null),
+        (tt, (live_in_new m null, λ c t e. e)),
       )
 
   static_to_write-held : (o : Option ℕ) (i : ℕ) → numbered m.statics i ≡ o → ((s : ℕ) → o ≡ Some s → IsLive m s) → WalkHeld m (static_to_write o m i)
-  static_to_write-held (Some s) i e live = (Grows-refl m, (tt, live s refl))
+  static_to_write-held (Some s) i e live = (Grows-refl m, (tt, (live s refl, λ b s e. e)))
   static_to_write-held None i e live =
       let m' = with_new_store m null in
       let s = new_store_number m in
       let none : (x : ℕ) → weight_if (λ t. times x (t ∷ [])) (numbered m.statics i) ≡ 0 = λ x. ap (weight_if (λ t. times x (t ∷ []))) e in (
         made_named m (record m' { statics = with_numbered m.statics i (Some s) }) (λ s e. e) (λ x. omega (arith, holders-with_static m' x i (Some s), holders-with_new m x null, none x)) (λ h e. e) (λ h e. e)
             (λ k. handles-with_static m' k i (Some s) ∙ (let e : object_holders m' k ≡ object_holders m k = omega (arith, handles-with_new m k null) in e)),
-        (tt, live_in_new m null),
+        (tt, (live_in_new m null, λ c t e. e)),
       )
 
   temp_to_write-held : (b k : ℕ) (i : Option Item) → nth_item (scope_of m b).temps k ≡ i → IsSome i → ((s : ℕ) → i ≡ Some (link s) → IsLive m s) → WalkHeld m (temp_to_write (temp_spot b k i) m b k)
   temp_to_write-held b k None e there live = absurd (false≢true there)
-  temp_to_write-held b k (Some (value c)) e there live = (Grows-refl m, ((c, e), tt))
-  temp_to_write-held b k (Some (link s)) e there live = (Grows-refl m, (tt, live s refl))
+  temp_to_write-held b k (Some (value c)) e there live = (Grows-refl m, ((c, e), (tt, λ b s e. e)))
+  temp_to_write-held b k (Some (link s)) e there live = (Grows-refl m, (tt, (live s refl, λ b s e. e)))
 
 pub found_live : (P : ℕ → Type 0) (o : Option ℕ) → IfFound P o → (s : ℕ) → o ≡ Some s → P s
 found_live P None h s e = absurd (no e)
@@ -354,9 +379,9 @@ nth_some [] k h = absurd (omega (arith, h))
 nth_some (i ∷ is) zero h = refl
 nth_some (i ∷ is) (suc k) h = nth_some is k (omega (arith, h))
 
-more_held : (l m : Mem) → Grows l m → (w : Walk) → WalkHeld m w → WalkHeld l w
-more_held l m g (stopped why) h = tt
-more_held l m g (reached n spot) h = (Grows-trans l m n g h.0, h.1)
+more_held : (l m : Mem) → Grows l m → KeepsTopLinks l m → (w : Walk) → WalkHeld m w → WalkHeld l w
+more_held l m g t (stopped why) h = tt
+more_held l m g t (reached n spot) h = (Grows-trans l m n g h.0, (h.1.0, (h.1.1.0, λ b s e. h.1.1.1 b s (t b s e))))
 
 module _ (m : Mem) (closed : IsClosed m) where
   base_to_write-held : (base : Base) → IsBase m base → WalkHeld m (base_to_write m base)
@@ -375,7 +400,7 @@ module _ (m : Mem) (closed : IsClosed m) where
 
 walk_on-held : (to : ℕ → ℕ) (m : Mem) (w : Walk) → WalkHeld m w → WalksAlike to m w w → (step : Step) → WalkHeld m (walk_step w step)
 walk_on-held to m (stopped why) h a step = tt
-walk_on-held to m (reached n spot) h a step = more_held m n h.0 (walk_step (reached n spot) step) (walk_step-held n a.closed spot step h.1.0 h.1.1)
+walk_on-held to m (reached n spot) h a step = more_held m n h.0 h.1.1.1 (walk_step (reached n spot) step) (walk_step-held n a.closed spot step h.1.0 h.1.1.0)
 
 walk_along-held : (to : ℕ → ℕ) (m : Mem) (w : Walk) → WalkHeld m w → WalksAlike to m w w → (path : List Step) → WalkHeld m (walk_along w path)
 walk_along-held to m w h a [] = h
@@ -416,7 +441,7 @@ moved_in-grows m b spot real there (value c) e =
 
 assigned-grows : (m : Mem) (w : Walk) → WalkHeld m w → (b : ℕ) → Grows m (assigned w m b).0
 assigned-grows m (stopped why) h b = Grows-refl m
-assigned-grows m (reached n spot) h b = Grows-trans m n (moved_in (top n b) n b spot) h.0 (moved_in-grows n b spot h.1.0 h.1.1 (top n b) refl)
+assigned-grows m (reached n spot) h b = Grows-trans m n (moved_in (top n b) n b spot) h.0 (moved_in-grows n b spot h.1.0 h.1.1.0 (top n b) refl)
 
 pushed-grows : (m : Mem) (b s : ℕ) → Grows m (pushed m b (link s))
 pushed-grows m b s = record { stores = λ k h. inl h; more = λ k. omega (arith, holders-pushed m k b (link s)); objects = λ h e. e; objects_stay = λ h e. e; handles = λ h. omega (arith, handles-pushed m h b (link s)) }

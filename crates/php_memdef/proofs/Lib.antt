@@ -26,3 +26,4 @@ pub mod HeldWriteLemmas
 pub mod HeldRemovalLemmas
 pub mod HeldReleaseLemmas
 pub mod HeldCopyLemmas
+pub mod HeldBindLemmas

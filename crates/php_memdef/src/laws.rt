@@ -206,6 +206,8 @@ pub fn writes_keep_held()
         KeepsHeld (λ m. IsClosed m × CanAssign b p m) (λ m. (writes.assign m b p).0) }
     ensures link { (b : ℕ) (p : Place) →
         KeepsHeld (λ m. IsClosed m × CanLink b p m) (λ m. (writes.make_link m b p).0) }
+    ensures bind { (b : ℕ) (p : Place) →
+        KeepsHeld (λ m. IsClosed m × CanBind b p m) (λ m. (writes.bind m b p).0) }
     ensures unset { (b : ℕ) (p : Place) →
         KeepsHeld (λ m. IsClosed m × CanUnset b p m) (λ m. writes.unset m b p) }
     ensures unset_last { (b : ℕ) (p : Place) →
@@ -220,7 +222,8 @@ pub fn writes_keep_held()
 pub fn releases_keep_held()
     ensures fall { (b : ℕ) → KeepsHeld (λ m. IsBlock m b) (λ m. (releases.fall m b).0) }
     ensures object { (b class : ℕ) (finishing : Bool) →
-        KeepsHeld (λ m. IsFormed m × CanMakeObject b m) (λ m. (objects.make_object m b class finishing).0) }
+        KeepsHeld (λ m. IsFormed m × CanMakeObject b m)
+        (λ m. (objects.make_object m b class finishing).0) }
     ensures clone_object { (b : ℕ) →
         KeepsHeld (λ m. IsFormed m × CanClone b m) (λ m. (objects.clone_object m b).0) }
     ensures finish { (h : ℕ) → KeepsHeld (λ m. IsObject m h) (λ m. objects.finish m h) }

@@ -1,3 +1,4 @@
+use Rattle.php_memdef.proofs.HeldBindLemmas.{bind-held}
 use Rattle.php_memdef.proofs.HeldWriteLemmas.{assign-held, make_link-held}
 use Rattle.php_memdef.proofs.HeldRemovalLemmas.{unset-held, unset_last-held, forget-held, shed-held}
 use Rattle.php_memdef.proofs.laws.writes_keep_held.Goals as goal
@@ -19,3 +20,6 @@ returns-clause-forget c b n m held can = forget-held m can.0 held b n
 
 pub returns-clause-shed : goal.returns-clause-shed
 returns-clause-shed c b m held can = shed-held m can.0 held b
+
+pub returns-clause-bind : goal.returns-clause-bind
+returns-clause-bind c b p m held can = bind-held m can.0 held b p can.1
