@@ -21,15 +21,15 @@ times-self s xs = elim (eqb_tells s s) [
   | inr e ↦ absurd (e.1 refl)
 ]
 
-weight_of_scope : (w : Scope → ℕ) (o : Option Scope) → w no_scope ≡ 0 → weight_if w o ≡ w (unwrap_or o no_scope)
+pub weight_of_scope : (w : Scope → ℕ) (o : Option Scope) → w no_scope ≡ 0 → weight_if w o ≡ w (unwrap_or o no_scope)
 weight_of_scope w None h = sym h
 weight_of_scope w (Some f) h = refl
 
-weight_of_content : (w : Content → ℕ) (o : Option Content) → w null ≡ 0 → weight_if w o ≡ w (unwrap_or o null)
+pub weight_of_content : (w : Content → ℕ) (o : Option Content) → w null ≡ 0 → weight_if w o ≡ w (unwrap_or o null)
 weight_of_content w None h = sym h
 weight_of_content w (Some c) h = refl
 
-weight_of_object : (w : Object → ℕ) (o : Option Object) → w no_object ≡ 0 → weight_if w o ≡ w (unwrap_or o no_object)
+pub weight_of_object : (w : Object → ℕ) (o : Option Object) → w no_object ≡ 0 → weight_if w o ≡ w (unwrap_or o no_object)
 weight_of_object w None h = sym h
 weight_of_object w (Some x) h = refl
 

@@ -18,7 +18,7 @@ use Rattle.php_memdef.proofs.KeptLemmas.{scope_named, items_joined, fallen_named
 
 -- what nothing counts isn't named
 
-weight-within : {X : Type 0} (weight : X → ℕ) (xs : Numbered X) (n : ℕ) (x : X) → numbered xs n ≡ Some x → weight x ≤ total weight xs
+pub weight-within : {X : Type 0} (weight : X → ℕ) (xs : Numbered X) (n : ℕ) (x : X) → numbered xs n ≡ Some x → weight x ≤ total weight xs
 weight-within weight [] n x e = absurd (no e)
   where
     no : None ≡ Some x → ⊥

@@ -22,3 +22,8 @@ pub mod FormedWriteLemmas
 pub mod FormedReleaseLemmas
 pub mod HeldLemmas
 pub mod HeldTemporaryLemmas
+pub mod HeldWriteLemmas
+pub mod HeldRemovalLemmas
+pub mod HeldReleaseLemmas
+pub mod HeldCopyLemmas
+pub mod HeldBindLemmas

@@ -68,11 +68,11 @@ spot_kept to to' m m' x (stored s) h = ap stored (x.kept s h)
 spot_kept to to' m m' x (standing b k) h = refl
 
 -- the elements that a write goes on in name what is there
-abbrev ElementsNamed : (ℕ → Type 0) → Option (Listing ℕ) → Type 0
+abbrev pub ElementsNamed : (ℕ → Type 0) → Option (Listing ℕ) → Type 0
 ElementsNamed P None = Unit {0}
 ElementsNamed P (Some t) = Every P (stores_of_entries t.entries)
 
-elements_named : (P : ℕ → Type 0) (c : Content) → Every P (stores_of_content c) → ElementsNamed P (elements_to_write c)
+pub elements_named : (P : ℕ → Type 0) (c : Content) → Every P (stores_of_content c) → ElementsNamed P (elements_to_write c)
 elements_named P null h = tt
 elements_named P (truth b) h = tt
 elements_named P (int i) h = tt
@@ -237,7 +237,7 @@ module _ (to back : ℕ → ℕ) (m n : Mem) (r : IsRenamed to back m n) (closed
       let i = nth_item (scope_of m b.0).temps k in
       subst (λ (x : Option Spot). WalksAlike to m (temp_to_write (temp_spot b.0 k i) m b.0 k) (temp_to_write x n b.0 k)) (sym (ap (temp_spot b.0 k) (nth_temp-renamed to back m n r b.0 k) ∙ temp_spot-renamed to b.0 k i)) (temp_to_write-alike (temp_spot b.0 k i) (temp_spot_live b.0 k i refl) b.0 k)
 
-walk_on-alike : (to : ℕ → ℕ) (m : Mem) (w w' : Walk) → WalksAlike to m w w' → (step : Step) → WalksAlike to m (walk_step w step) (walk_step w' step)
+pub walk_on-alike : (to : ℕ → ℕ) (m : Mem) (w w' : Walk) → WalksAlike to m w w' → (step : Step) → WalksAlike to m (walk_step w step) (walk_step w' step)
 walk_on-alike to m (stopped v) (stopped w) a step = a
 walk_on-alike to m (reached m' spot) (stopped w) a step = absurd a
 walk_on-alike to m (stopped v) (reached n' spot') a step = absurd a

@@ -7,6 +7,7 @@ ghost use Rattle.php_memdef.specs.declared.answer.Fallen.TheVariants.{Nothing};
 ghost use Rattle.php_memdef.specs.Contents.{Mem, scope_of};
 ghost use Rattle.php_memdef.specs.Numbered.{numbered};
 ghost use Rattle.php_memdef.specs.Alike.{Alike};
+ghost use Rattle.php_memdef.specs.Sound.{IsClosed, IsFormed};
 ghost use Rattle.php_memdef.specs.Holders.{vslots};
 ghost use Rattle.php_memdef.specs.Views.{Shows, found, later_entry, is_aliased, temps_count, cost_of};
 ghost use Rattle.php_memdef.specs.Conditions.{AreKeysWithin, IsBlock, IsObject, IsPlace, CanLeave, CanPush, CanPushArray, CanPushObject, CanCopy, CanAssign, CanLink, CanBind, CanSettle, CanPass, CanUnset, CanUnsetLast, CanForget, CanDropTop, CanMakeObject, CanClone, CanAttach};
@@ -193,4 +194,40 @@ pub fn temporaries_keep_held()
         KeepsHeld (CanPushObject b h) (λ m. temporaries.push_object m b h) }
     ensures pass { (b c : ℕ) → KeepsHeld (CanPass b c) (λ m. temporaries.pass m b c) }
     ensures drop_top { (b : ℕ) → KeepsHeld (CanDropTop b) (λ m. temporaries.drop_top m b) }
+    ensures leave { (b : ℕ) → KeepsHeld (CanLeave b) (λ m. temporaries.leave m b) }
+    ensures copy { (b : ℕ) (p : Place) →
+        KeepsHeld (CanCopy b p) (λ m. (temporaries.copy m b p).0) }
+    ensures settle { (b : ℕ) → KeepsHeld (CanSettle b) (λ m. temporaries.settle m b) }
+{}
+
+/// The same of writes and removals, where each store that is named is there too.
+pub fn writes_keep_held()
+    ensures assign { (b : ℕ) (p : Place) →
+        KeepsHeld (λ m. IsClosed m × CanAssign b p m) (λ m. (writes.assign m b p).0) }
+    ensures link { (b : ℕ) (p : Place) →
+        KeepsHeld (λ m. IsClosed m × CanLink b p m) (λ m. (writes.make_link m b p).0) }
+    ensures bind { (b : ℕ) (p : Place) →
+        KeepsHeld (λ m. IsClosed m × CanBind b p m) (λ m. (writes.bind m b p).0) }
+    ensures unset { (b : ℕ) (p : Place) →
+        KeepsHeld (λ m. IsClosed m × CanUnset b p m) (λ m. writes.unset m b p) }
+    ensures unset_last { (b : ℕ) (p : Place) →
+        KeepsHeld (λ m. IsClosed m × CanUnsetLast b p m) (λ m. writes.unset_last m b p) }
+    ensures forget { (b n : ℕ) →
+        KeepsHeld (λ m. IsClosed m × CanForget b m) (λ m. writes.forget m b n) }
+    ensures shed { (b : ℕ) →
+        KeepsHeld (λ m. IsClosed m × CanForget b m) (λ m. (writes.shed m b).0) }
+{}
+
+/// The same of releases and of the operations on objects.
+pub fn releases_keep_held()
+    ensures fall { (b : ℕ) → KeepsHeld (λ m. IsBlock m b) (λ m. (releases.fall m b).0) }
+    ensures object { (b class : ℕ) (finishing : Bool) →
+        KeepsHeld (λ m. IsFormed m × CanMakeObject b m)
+        (λ m. (objects.make_object m b class finishing).0) }
+    ensures clone_object { (b : ℕ) →
+        KeepsHeld (λ m. IsFormed m × CanClone b m) (λ m. (objects.clone_object m b).0) }
+    ensures finish { (h : ℕ) → KeepsHeld (λ m. IsObject m h) (λ m. objects.finish m h) }
+    ensures spare { (h : ℕ) → KeepsHeld (λ m. IsObject m h) (λ m. objects.spare m h) }
+    ensures attach { (h : ℕ) (frame : Option ℕ) →
+        KeepsHeld (CanAttach h frame) (λ m. objects.attach m h frame) }
 {}
