@@ -1,3 +1,1 @@
-pub mod Bytes
-pub mod Cut
-pub mod Steps
+pub mod Lexemes
