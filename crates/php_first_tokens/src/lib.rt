@@ -1,8 +1,8 @@
 // The tokens of the first language that runs, taken from those of the whole one.
 #![tactic(auto)]
 
-mod narrow;
+mod narrowing;
 mod token;
 
-pub use narrow::narrow;
+pub use narrowing::narrow;
 pub use token::{FirstTokens, Lexeme, Token};

@@ -14,5 +14,5 @@ pub fn narrow<'a>(alloc: Global, tokens: &'a Tokens) -> Result<Option<FirstToken
     ensures only { (firsts : List TokenMeant) → AreFirst tokens.now firsts →
         IfOk result (λ found. IsSomeAnd found (λ first. first.tokens.items ≡ firsts)) }
 {
-    loop {}
+    Err(NoMemory)
 }
