@@ -6,3 +6,6 @@ mod token;
 
 pub use narrowing::narrow;
 pub use token::{FirstTokens, Lexeme, Token};
+
+#[cfg(test)]
+mod tests;
