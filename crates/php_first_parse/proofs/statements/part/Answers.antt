@@ -1,4 +1,3 @@
-use Rattle.std.proofs.Common.{rules}
 use Rattle.php_first_parse.proofs.Commands.{no_part}
 use Rattle.php_first_parse.proofs.statements.part.Goals as goal
 
