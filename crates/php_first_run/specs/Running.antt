@@ -1,7 +1,7 @@
 -- How statements run.
 use Rattle.std.specs.Prelude.{ℕ, ◌+◌, Bool, true, false, nat_lt, List, [], ◌∷◌, ◌++◌, Option, Some, None, option_map, map, slice_index_or, slice_set, if◌then◌else◌}
 use Rattle.std.specs.Fmt.{signed_decimal}
-use Rattle.php_first_tree.specs.Expression.{Expression, Part, value, text, Command, assign, echo, inline, empty, Statement}
+use Rattle.php_first_tree.specs.Expression.{Part, value, text, Command, assign, echo, inline, empty, Statement}
 use Rattle.php_lex.specs.Token.{Token}
 use Rattle.php_first_run.specs.declared.value.Value.{Value}
 use Rattle.php_first_run.specs.declared.value.Value.TheVariants.{Null, Int}
@@ -42,7 +42,7 @@ echoed texts values (part ∷ parts) = part_written values (part_text texts valu
 
 abbrev pub assigned : List Value → ℕ → Option Value → Effect
 assigned values k None = record { values = values; bytes = []; overflows = true }
-assigned values k (Some value) = record { values = slice_set values k value; bytes = []; overflows = false }
+assigned values k (Some new) = record { values = slice_set values k new; bytes = []; overflows = false }
 
 -- bytes are written, and nothing else happens
 abbrev pub written : List Value → List ℕ → Effect
