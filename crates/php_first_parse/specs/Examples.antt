@@ -1,9 +1,10 @@
--- What the machine reads of some lists of lexemes.
+-- What the machine reads of some lists of lexemes, and what the grammar says of some.
 use Rattle.std.specs.Prelude.{◌≡◌, refl, pos, Option, Some, None, List, [], ◌∷◌, map}
 use Rattle.php_first_tree.specs.Expression.{int, variable, group, times, plus, minus, value, text, Command, assign, echo, inline, empty, Statement}
 use Rattle.php_first_tokens.specs.declared.token.Lexeme.{Lexeme}
 use Rattle.php_first_tokens.specs.declared.token.Lexeme.TheVariants.{Variable, Int, Text, Inline, Echo, Equals, Semicolon, Comma, Plus, Minus, Star, Open, Close}
-use Rattle.php_first_parse.specs.Spelling.{at_line}
+use Rattle.php_first_tokens.specs.declared.token.Token.{Token}
+use Rattle.php_first_parse.specs.Spelling.{at_line, IsSpelling}
 use Rattle.php_first_parse.specs.Machine.{read}
 
 -- the statements that lexemes of the first line spell
@@ -119,3 +120,16 @@ no_text_outside_as_part = refl
 
 pub no_text_outside_in_a_statement : read_line (Echo ∷ Int (pos 1) ∷ Inline 2 ∷ []) ≡ None
 no_text_outside_in_a_statement = refl
+
+-- echo 'a',1; on line 2, text outside the tags behind it, and a semicolon
+abbrev pub behind_the_text : List Token
+behind_the_text = at_line (Int (pos 1)) 2 ∷ at_line Semicolon 2 ∷ at_line (Inline 5) 2 ∷ at_line Semicolon 4 ∷ []
+
+pub spelled : IsSpelling
+    (record { line = 2; command = echo (text 1 ∷ value (int (pos 1)) ∷ []) } ∷ record { line = 2; command = inline 5 } ∷ record { line = 4; command = empty } ∷ [])
+    (at_line Echo 2 ∷ at_line (Text 1) 2 ∷ at_line Comma 3 ∷ behind_the_text)
+spelled = (
+  at_line (Inline 5) 2 ∷ at_line Semicolon 4 ∷ [],
+  (2, at_line (Text 1) 2 ∷ at_line Comma 3 ∷ behind_the_text, refl, (3, behind_the_text, (2, refl), record { grouped = tt; within = tt; spelled = (2, refl) })),
+  (at_line Semicolon 4 ∷ [], refl, ([], refl, refl)),
+)
