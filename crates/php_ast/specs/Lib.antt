@@ -21,4 +21,12 @@ pub mod StatementPlaced
 pub mod Declarations
 pub mod DeclarationSpelling
 pub mod ProperDeclaration
+pub mod DeclarationNesting
+pub mod DeclarationPlaced
+pub mod StatementSign
+pub mod StatementForms
+pub mod StatementMachine
+pub mod StatementReading
+pub mod TooDeep
+pub mod StatementDepth
 pub mod StatementView
