@@ -12,6 +12,7 @@ mod Notes
 mod LawProofs
 mod RulesAgree
 mod StatementExamples
+mod StatementReadings
 mod TraceSteps
 mod TraceBack
 mod Sizes

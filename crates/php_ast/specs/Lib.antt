@@ -23,10 +23,13 @@ pub mod DeclarationSpelling
 pub mod ProperDeclaration
 pub mod DeclarationNesting
 pub mod DeclarationPlaced
+pub mod Run
 pub mod StatementSign
 pub mod StatementForms
 pub mod StatementMachine
 pub mod StatementReading
 pub mod TooDeep
 pub mod StatementDepth
+pub mod SignatureMachine
+pub mod FunctionMachine
 pub mod StatementView

@@ -10,7 +10,8 @@ use Rattle.php_ast.specs.Symbol as symbol
 use Rattle.php_ast.specs.Symbol.{Symbol}
 use Rattle.php_ast.specs.Tree.{Items, none, and, plain}
 use Rattle.php_ast.specs.Sign.{Closer, paren, comma, double_arrow, colon, semicolon, is_ampersand, is_colon, is_left_brace}
-use Rattle.php_ast.specs.Machine.{Nothing, Form, State, expects, past_static, Reading, halt, pick, advance}
+use Rattle.php_ast.specs.Machine.{Nothing, Form, State, expects, past_static, pick, advance}
+use Rattle.php_ast.specs.Run.{either, if_some, through_expression}
 use Rattle.php_ast.specs.Statements.{Sequence, empty, then_also, Name, Variable, Constant, Target, Jump}
 use Rattle.php_ast.specs.Statements.{Statement, block, blank, inline, expression, echo, globals, statics, unset, constants, jump, throw, if_only, if_else, if_lists, if_else_lists, while, do_while, for, foreach, switch, try_catch, try_finally, declares}
 use Rattle.php_ast.specs.Statements.{Statements, no_statement, and_statement, ElseIfs, no_elseif, and_elseif, ElseIfLists, no_elseif_list, and_elseif_list, Body, single, list_behind_colon, Cases, no_case, and_case, Catches, no_catch, and_catch}
@@ -38,15 +39,6 @@ released_bodies n (f ∷ o) a =
     pick (nat_lt n (body_level f)) (released_bodies n o (completed_statement f a)) (record { tree = a; around = f ∷ o })
 
 -- ---- steps
-
--- the first of two answers
-abbrev pub either : {A : Type 0} → Option A → Option A → Option A
-either (Some x) y = Some x
-either None y = y
-
-abbrev pub if_some : {A B : Type 0} → Option A → (A → Option B) → Option B
-if_some (Some x) f = f x
-if_some None f = None
 
 abbrev pub expected : ExpressionPlace → Around → StatementState
 expected place o = in_expression place (expects []) o
@@ -214,20 +206,8 @@ filled (as_label e form cases) label o (closer colon) = Some (labelled e form ca
 filled (as_label e form cases) label o (closer semicolon) = Some (labelled e form cases (Some label) case_end.Semicolon o)
 filled _ e o _ = None
 
--- the expression that has been read, where nothing is missing in front of a symbol
-abbrev pub if_nothing : List Symbol → Form → Option Form
-if_nothing [] e = Some e
-if_nothing (t ∷ w) e = None
-
-abbrev pub if_whole : Reading → Option Form
-if_whole r = if_nothing r.missing r.tree
-
-abbrev pub whole_before : State → Symbol → Option Form
-whole_before m t = if_whole (halt m (t ∷ []))
-
 abbrev pub expression_step : ExpressionPlace → State → Around → Symbol → Option StatementState
-expression_step place m o t =
-    either (if_some (advance m t) (λ n. Some (in_expression place n o))) (if_some (whole_before m t) (λ e. filled place e o (ending t)))
+expression_step place m o t = through_expression m t (λ n. in_expression place n o) (λ e. filled place e o (ending t))
 
 -- ---- names and words
 

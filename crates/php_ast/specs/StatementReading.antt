@@ -1,6 +1,6 @@
 -- Where the machine of statements halts: the statement that has been read, ended as shortly as possible, and a whole
 -- reading.
-use Rattle.std.specs.Prelude.{ℤ, pos, Bool, true, false, Option, Some, None, List, [], ◌∷◌, ◌++◌}
+use Rattle.std.specs.Prelude.{ℤ, pos, Bool, true, false, Option, Some, None, List, [], ◌∷◌}
 use Rattle.php_lex.specs.declared.kind.Keyword.{Keyword}
 use Rattle.php_lex.specs.declared.kind.Keyword.TheVariants as word
 use Rattle.php_lex.specs.declared.kind.Punct.TheVariants as mark
@@ -9,7 +9,8 @@ use Rattle.php_ast.specs.declared.statement.CaseEnd.TheVariants as case_end
 use Rattle.php_ast.specs.Symbol as symbol
 use Rattle.php_ast.specs.Symbol.{Symbol, keyword, punct}
 use Rattle.php_ast.specs.Tree.{Items, none, and, plain}
-use Rattle.php_ast.specs.Machine.{Nothing, Form, Reading, any, any_symbol, halt}
+use Rattle.php_ast.specs.Machine.{Nothing, Form, any, any_symbol}
+use Rattle.php_ast.specs.Run.{ReadingOf, reading, if_whole, run_of, around_expression}
 use Rattle.php_ast.specs.Statements.{empty, then_also, Name, Statement, blank, expression, echo, globals, statics, unset, constants, jump, throw, if_only, if_lists, while, do_while, for, foreach, switch, try_catch, try_finally, declares}
 use Rattle.php_ast.specs.Statements.{no_statement, no_elseif, and_elseif, and_elseif_list, single, no_case, and_case, no_catch, and_catch}
 use Rattle.php_ast.specs.StatementSpelling.{cases_closing}
@@ -133,33 +134,26 @@ name_rest _ w = end_sign ∷ w
 
 -- ---- a whole reading
 
--- What a reading answers: a statement that the symbols read begin, the symbols missing from its spelling, and
--- those that it did not read.
-pub record StatementReading : Type 0 where
-  pub tree : Statement Nothing
-  pub missing : List Symbol
-  pub unread : List Symbol
+abbrev pub StatementReading : Type 0
+StatementReading = ReadingOf (Statement Nothing)
 
 -- a statement, completed by what is open around it
 abbrev pub stopped : Statement Nothing → Around → List Symbol → List Symbol → StatementReading
-stopped a o missing w = record { tree = completed_around o a; missing = missing; unread = w }
-
--- An expression ends as shortly as it can in front of what the statement needs behind it.
-abbrev pub stopped_inside : ExpressionPlace → Around → Reading → List Symbol → StatementReading
-stopped_inside place o r w = stopped (placed_statement place r.tree) o (r.missing ++ r.unread) w
+stopped a o missing w = reading (completed_around o a) missing w
 
 abbrev pub fixed_symbols : List Fixed → List Symbol → List Symbol
 fixed_symbols [] w = w
 fixed_symbols (x ∷ xs) w = fixed_symbol x ∷ fixed_symbols xs w
 
 abbrev pub behind_fixed : List Fixed → StatementReading → StatementReading
-behind_fixed xs r = record { tree = r.tree; missing = fixed_symbols xs r.missing; unread = r.unread }
+behind_fixed xs r = reading r.tree (fixed_symbols xs r.missing) r.unread
 
 abbrev pub halt_statement : StatementState → List Symbol → StatementReading
 halt_statement (due_statement o) w = stopped any_statement o (end_sign ∷ missing_around o) w
 halt_statement (done a o) w = stopped a o (missing_around o) w
 halt_statement (due xs m) w = behind_fixed xs (halt_statement m w)
-halt_statement (in_expression place m o) w = stopped_inside place o (halt m (place_rest place (missing_around o))) w
+halt_statement (in_expression place m o) w =
+    around_expression (λ e. completed_around o (placed_statement place e)) m (place_rest place (missing_around o)) w
 halt_statement (due_in_list list ss o) w = stopped (listed_statement list ss) o (list_rest list (missing_around o)) w
 halt_statement (due_value values o) w = stopped (values_statement values none) o (values_rest values (missing_around o)) w
 halt_statement (due_name names o) w = stopped (named_statement names any_name) o (name_sign names ∷ name_rest names (missing_around o)) w
@@ -184,25 +178,13 @@ halt_statement (past_block body no_catch o) w =
 halt_statement (past_block body (and_catch catches classes variable ss) o) w =
     stopped (try_catch tt body (and_catch catches classes variable ss)) o (missing_around o) w
 
-abbrev pub or_stopped : Option StatementState → (StatementState → StatementReading) → StatementReading → StatementReading
-or_stopped (Some m) f r = f m
-or_stopped None f r = r
-
 abbrev pub read_statement_from : StatementState → List Symbol → StatementReading
-read_statement_from m [] = halt_statement m []
-read_statement_from m (t ∷ w) = or_stopped (advance_statement m t) (λ n. read_statement_from n w) (halt_statement m (t ∷ w))
+read_statement_from = run_of advance_statement halt_statement
 
 -- the reading of a statement
 abbrev pub read_statement : List Symbol → StatementReading
 read_statement = read_statement_from (due_statement [])
 
 -- the statement that has been read, where nothing is missing
-abbrev pub if_no_rest : List Symbol → Statement Nothing → Option (Statement Nothing)
-if_no_rest [] a = Some a
-if_no_rest (t ∷ w) a = None
-
-abbrev pub if_ended : StatementReading → Option (Statement Nothing)
-if_ended r = if_no_rest r.missing r.tree
-
 abbrev pub whole_statement : StatementState → Option (Statement Nothing)
-whole_statement m = if_ended (halt_statement m [])
+whole_statement m = if_whole (halt_statement m [])

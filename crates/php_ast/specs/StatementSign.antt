@@ -171,6 +171,10 @@ abbrev pub is_assign : Symbol → Bool
 is_assign (punct mark.Assign) = true
 is_assign _ = false
 
+abbrev pub is_right_brace : Symbol → Bool
+is_right_brace (punct mark.RightBrace) = true
+is_right_brace _ = false
+
 abbrev pub is_bar : Symbol → Bool
 is_bar (punct mark.Bar) = true
 is_bar _ = false
