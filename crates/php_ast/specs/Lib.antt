@@ -32,4 +32,6 @@ pub mod TooDeep
 pub mod StatementDepth
 pub mod SignatureMachine
 pub mod FunctionMachine
+pub mod MemberMachine
+pub mod ScriptMachine
 pub mod StatementView
