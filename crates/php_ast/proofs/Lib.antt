@@ -13,6 +13,7 @@ mod LawProofs
 mod RulesAgree
 mod StatementExamples
 mod StatementReadings
+mod DeclarationExamples
 mod TraceSteps
 mod TraceBack
 mod Sizes

@@ -34,4 +34,5 @@ pub mod SignatureMachine
 pub mod FunctionMachine
 pub mod MemberMachine
 pub mod ScriptMachine
+pub mod DeclarationDepth
 pub mod StatementView
