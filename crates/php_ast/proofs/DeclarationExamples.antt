@@ -1,6 +1,6 @@
 -- Examples of declarations and scripts, each by computing: the spelling of a script is read back to that script, the
 -- nesting counted at each symbol is that of the tree, and each note is about the right token.
-use Rattle.std.proofs.Common.{◌≡◌, ℕ, ◌+◌, pos, true, false, Option, Some, None, List, [], ◌∷◌, refl}
+use Rattle.std.proofs.Common.{◌≡◌, ℕ, ◌+◌, true, false, Option, Some, None, [], ◌∷◌, refl}
 use Rattle.php_lex.specs.declared.kind.Keyword.TheVariants as word
 use Rattle.php_lex.specs.declared.kind.Punct.TheVariants as mark
 use Rattle.php_ast.specs.declared.declaration.ModifierWord.{ModifierWord}
@@ -11,14 +11,13 @@ use Rattle.php_ast.specs.Symbol as symbol
 use Rattle.php_ast.specs.Symbol.{Symbol, keyword, punct}
 use Rattle.php_ast.specs.Tree as tree
 use Rattle.php_ast.specs.Tree.{Tree, variable, int, leaf, static_member, held, none, and, plain}
-use Rattle.php_ast.specs.Machine.{Form, Nothing, any, any_symbol}
+use Rattle.php_ast.specs.Machine.{Form, Nothing, any_symbol}
 use Rattle.php_ast.specs.Placed.{Notes}
-use Rattle.php_ast.specs.Run.{ReadingOf}
 use Rattle.php_ast.specs.Statements.{Sequence, empty, then_also, Name, Variable, Statement, blank, inline, expression, echo, if_only, jump, returning, Statements, no_statement, and_statement, no_elseif}
-use Rattle.php_ast.specs.Declarations.{Base, of_name, of_array, of_callable, Type_of, Param, Signature, Modifier, ClassConstant, Rule, renames, prefers, Member, uses, uses_by, class_constants, method, properties, Item, of_statement, of_function, of_class, of_interface, of_trait, Script}
+use Rattle.php_ast.specs.Declarations.{Base, of_name, of_array, of_callable, Type_of, Param, Signature, Modifier, Rule, renames, prefers, Member, uses, uses_by, class_constants, method, properties, Item, of_statement, of_function, of_class, of_interface, of_trait, Script}
 use Rattle.php_ast.specs.DeclarationSpelling.{spell_signature, spell_member, spell_script}
 use Rattle.php_ast.specs.DeclarationNesting.{signature_nests, member_nests, script_nests}
-use Rattle.php_ast.specs.DeclarationPlaced.{noted_script, size_script}
+use Rattle.php_ast.specs.DeclarationPlaced.{noted_script}
 use Rattle.php_ast.specs.SignatureMachine.{read_signature}
 use Rattle.php_ast.specs.MemberMachine.{read_member}
 use Rattle.php_ast.specs.ScriptMachine.{read_script}

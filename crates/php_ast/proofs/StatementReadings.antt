@@ -1,15 +1,14 @@
 -- Examples of reading statements, each by computing: the spelling of a tree is read back to that tree, and the nesting
 -- counted at each symbol is that of the tree.
-use Rattle.std.proofs.Common.{◌≡◌, ℕ, pos, true, false, Some, None, List, [], ◌∷◌, refl}
+use Rattle.std.proofs.Common.{◌≡◌, ℕ, pos, true, false, Some, None, [], ◌∷◌, refl}
 use Rattle.php_lex.specs.declared.kind.Keyword.TheVariants as word
 use Rattle.php_lex.specs.declared.kind.Punct.TheVariants as mark
 use Rattle.php_ast.specs.declared.statement.SwitchForm.TheVariants as switch_form
 use Rattle.php_ast.specs.declared.statement.CaseEnd.TheVariants as case_end
-use Rattle.php_ast.specs.declared.operator.Prefix.TheVariants as pre
 use Rattle.php_ast.specs.declared.operator.Count.TheVariants as count
 use Rattle.php_ast.specs.Symbol as symbol
 use Rattle.php_ast.specs.Symbol.{Symbol, keyword, punct}
-use Rattle.php_ast.specs.Tree.{variable, int, thin, colons, named, held, leaf, exit, static_member, selected, counted, prefix, choice, call, yield_nothing, yield_value, yield_pair, none, and, plain}
+use Rattle.php_ast.specs.Tree.{variable, held, leaf, static_member, counted, choice, yield_nothing, yield_value, yield_pair, none, and, plain}
 use Rattle.php_ast.specs.Machine.{Form, Nothing, any, any_symbol}
 use Rattle.php_ast.specs.Statements.{empty, then_also, Name, Target, Statement, block, blank, inline, expression, echo, globals, statics, unset, constants, jump, throw, if_only, if_else, if_lists, if_else_lists, while, do_while, for, foreach, switch, try_catch, try_finally, declares, returning, breaking, continuing, Statements, no_statement, and_statement, no_elseif, and_elseif, no_elseif_list, and_elseif_list, single, list_behind_colon, no_case, and_case, no_catch, and_catch}
 use Rattle.php_ast.specs.StatementSpelling.{spell_statement}

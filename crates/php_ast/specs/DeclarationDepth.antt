@@ -5,10 +5,10 @@ use Rattle.php_ast.specs.Statements.{empty}
 use Rattle.php_ast.specs.Depth.{depth_at}
 use Rattle.php_ast.specs.TooDeep.{depths_taken}
 use Rattle.php_ast.specs.StatementDepth.{statement_depth_at}
-use Rattle.php_ast.specs.SignatureMachine.{SignatureState, due_signature, due_param, past_question, past_type, past_reference, past_variadic, past_param, in_default, past_params, due_result, past_result_question, past_signature, advance_signature}
-use Rattle.php_ast.specs.FunctionMachine.{FunctionState, past_function, past_function_reference, in_signature, due_in_body, in_statement, past_routine}
-use Rattle.php_ast.specs.MemberMachine.{NamesIn, of_use, of_instead, MemberState, past_modifiers, due_trait, past_trait, due_constant, past_constant, in_constant, due_property, past_property, in_property, in_method, due_rule, past_first_word, past_colons, past_second_word, past_as, past_visibility, due_rule_end, past_member, advance_member}
-use Rattle.php_ast.specs.ScriptMachine.{ScriptState, due_item, in_statement as in_item, in_function, past_class_words, due_heading_name, past_heading, due_parent, due_interface, due_member, in_member, advance_script}
+use Rattle.php_ast.specs.SignatureMachine.{SignatureState, due_signature, in_default, past_params, due_result, past_result_question, past_signature, advance_signature}
+use Rattle.php_ast.specs.FunctionMachine.{FunctionState, in_signature, due_in_body, in_statement}
+use Rattle.php_ast.specs.MemberMachine.{NamesIn, of_use, of_instead, MemberState, past_modifiers, due_trait, past_trait, due_constant, past_constant, in_constant, due_property, past_property, in_property, in_method, past_member, advance_member}
+use Rattle.php_ast.specs.ScriptMachine.{ScriptState, due_item, in_statement as in_item, in_function, due_member, in_member, advance_script}
 
 -- the parentheses of the parameters
 abbrev pub signature_depth_at : SignatureState → Symbol → ℕ

@@ -7,12 +7,12 @@ use Rattle.php_ast.specs.Tree as tree
 use Rattle.php_ast.specs.Sign.{is_ampersand, is_left_brace, word_of}
 use Rattle.php_ast.specs.Machine.{Nothing, pick}
 use Rattle.php_ast.specs.Run.{either, if_some, ReadingOf, reading, if_whole, inside}
-use Rattle.php_ast.specs.Statements.{Name, Statement, Statements, no_statement, and_statement}
+use Rattle.php_ast.specs.Statements.{Name, Statements, no_statement, and_statement}
 use Rattle.php_ast.specs.Declarations.{Signature}
 use Rattle.php_ast.specs.StatementSign.{is_semicolon, is_right_brace, name_text}
 use Rattle.php_ast.specs.StatementForms.{StatementState, due_statement}
 use Rattle.php_ast.specs.StatementMachine.{advance_statement, named_here}
-use Rattle.php_ast.specs.StatementReading.{StatementReading, halt_statement, whole_statement, braces, any_name, end_sign}
+use Rattle.php_ast.specs.StatementReading.{halt_statement, whole_statement, braces, any_name, end_sign}
 use Rattle.php_ast.specs.SignatureMachine.{SignatureState, due_signature, advance_signature, halt_signature, whole_signature, any_word}
 
 -- how a function is named, and whether `;` may stand in place of its block

@@ -10,7 +10,7 @@ use Rattle.php_ast.specs.declared.declaration.Visibility.TheVariants as visibili
 use Rattle.php_ast.specs.Symbol as symbol
 use Rattle.php_ast.specs.Symbol.{Symbol, keyword, punct}
 use Rattle.php_ast.specs.Tree as tree
-use Rattle.php_ast.specs.Sign.{Closer, comma, semicolon, is_left_brace, word_of}
+use Rattle.php_ast.specs.Sign.{comma, semicolon, is_left_brace, word_of}
 use Rattle.php_ast.specs.Machine.{Nothing, Form, State, expects, any, any_symbol, pick}
 use Rattle.php_ast.specs.Run.{either, if_some, ReadingOf, reading, if_whole, inside, run_of, through_expression, around_expression}
 use Rattle.php_ast.specs.Statements.{Sequence, empty, then_also, Name, Variable}
@@ -19,7 +19,7 @@ use Rattle.php_ast.specs.StatementSign.{Ending, closer, ending, is_assign, is_se
 use Rattle.php_ast.specs.StatementMachine.{named_here}
 use Rattle.php_ast.specs.StatementReading.{any_name, end_sign}
 use Rattle.php_ast.specs.SignatureMachine.{any_word}
-use Rattle.php_ast.specs.FunctionMachine.{method_form, Routine, FunctionState, past_function, advance_function, halt_function, whole_function}
+use Rattle.php_ast.specs.FunctionMachine.{method_form, Routine, FunctionState, past_function, advance_function, halt_function}
 
 -- ---- the roles of a symbol among members
 

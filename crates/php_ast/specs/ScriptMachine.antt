@@ -6,12 +6,11 @@ use Rattle.php_lex.specs.declared.kind.Punct.TheVariants as mark
 use Rattle.php_ast.specs.declared.declaration.ClassModifier.{ClassModifier}
 use Rattle.php_ast.specs.declared.declaration.ClassModifier.TheVariants as class_word
 use Rattle.php_ast.specs.Symbol.{Symbol, keyword, punct}
-use Rattle.php_ast.specs.Sign.{comma}
 use Rattle.php_ast.specs.Machine.{Nothing, pick}
-use Rattle.php_ast.specs.Run.{either, if_some, ReadingOf, reading, if_whole, inside, run_of}
+use Rattle.php_ast.specs.Run.{either, if_some, ReadingOf, reading, inside, run_of}
 use Rattle.php_ast.specs.Statements.{Sequence, empty, then_also, Name, Statements, no_statement}
 use Rattle.php_ast.specs.Declarations.{ClassWord, Member, Item, of_statement, of_function, of_class, of_interface, of_trait, Script}
-use Rattle.php_ast.specs.StatementSign.{Ending, closer, ending, is_right_brace, name_text}
+use Rattle.php_ast.specs.StatementSign.{is_right_brace, name_text}
 use Rattle.php_ast.specs.StatementForms.{StatementState, due_statement}
 use Rattle.php_ast.specs.StatementMachine.{advance_statement, named_here}
 use Rattle.php_ast.specs.StatementReading.{halt_statement, whole_statement, any_name, braces}

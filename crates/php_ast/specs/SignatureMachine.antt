@@ -6,9 +6,9 @@ use Rattle.php_lex.specs.declared.kind.Punct.{Punct}
 use Rattle.php_lex.specs.declared.kind.Punct.TheVariants as mark
 use Rattle.php_ast.specs.Symbol as symbol
 use Rattle.php_ast.specs.Symbol.{Symbol, keyword, punct}
-use Rattle.php_ast.specs.Sign.{Closer, paren, comma, is_paren, is_colon, is_right_paren}
-use Rattle.php_ast.specs.Machine.{Nothing, Form, State, expects, any_symbol, pick, allowed_if}
-use Rattle.php_ast.specs.Run.{either, if_some, ReadingOf, reading, if_whole, run_of, through_expression, around_expression}
+use Rattle.php_ast.specs.Sign.{paren, comma, is_paren, is_colon, is_right_paren}
+use Rattle.php_ast.specs.Machine.{Nothing, Form, State, expects, any_symbol, pick}
+use Rattle.php_ast.specs.Run.{ReadingOf, reading, if_whole, run_of, through_expression, around_expression}
 use Rattle.php_ast.specs.Statements.{Sequence, empty, then_also, Name}
 use Rattle.php_ast.specs.ProperStatement.{is_empty}
 use Rattle.php_ast.specs.Declarations.{Base, of_name, of_array, of_callable, Type_of, Param, Signature}

@@ -6,7 +6,7 @@ use Rattle.php_ast.specs.Machine.{pick}
 use Rattle.php_ast.specs.Depth.{depth_at}
 use Rattle.php_ast.specs.TooDeep.{depths_taken}
 use Rattle.php_ast.specs.StatementSign.{StatementBeginning, at_block, statement_beginning, Behind, by_catch, by_finally, behind, body_strength, ends_outside, Fixed, right_paren}
-use Rattle.php_ast.specs.StatementForms.{StatementList, of_block, list_open, if_open, elseif_open, else_open, loop_open, do_open, OpenStatement, Around, Values, of_echo, ExpressionPlace, as_value, as_test, as_walked, as_first, as_second, as_label, Names, of_classes, of_declare, StatementState, due_statement, done, due, in_expression, due_in_list, due_value, due_name, past_name, due_int, past_static_word, past_jump, past_if, past_loop, past_as, past_key, past_switch, due_case, past_default, past_block}
+use Rattle.php_ast.specs.StatementForms.{of_block, list_open, if_open, loop_open, OpenStatement, Around, Values, of_echo, ExpressionPlace, as_value, as_test, as_walked, as_first, as_second, as_label, Names, of_classes, of_declare, StatementState, due_statement, done, due, in_expression, due_in_list, due_value, due_name, past_name, due_int, past_static_word, past_jump, past_if, past_loop, past_as, past_key, past_switch, due_case, past_default, past_block}
 use Rattle.php_ast.specs.StatementMachine.{body_level, advance_statement}
 
 -- ---- open forms

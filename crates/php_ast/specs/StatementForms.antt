@@ -1,5 +1,5 @@
 -- The forms of statements that are open while a statement is read, and what is due in each state.
-use Rattle.std.specs.Prelude.{Bool, Option, None, List, [], ◌∷◌}
+use Rattle.std.specs.Prelude.{Bool, Option, List}
 use Rattle.php_ast.specs.declared.statement.SwitchForm.{SwitchForm}
 use Rattle.php_ast.specs.declared.statement.CaseEnd.{CaseEnd}
 use Rattle.php_ast.specs.Tree.{Items}

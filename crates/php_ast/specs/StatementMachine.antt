@@ -1,7 +1,7 @@
 -- A machine that reads a statement, one symbol at a time, over the forms of statements that are open around it. An
 -- expression inside is read by the machine of expressions: it takes each symbol that it can, and one that it
 -- can't take ends the expression, if that is whole.
-use Rattle.std.specs.Prelude.{ℕ, ℤ, Bool, true, false, nat_lt, Option, Some, None, List, [], ◌∷◌}
+use Rattle.std.specs.Prelude.{ℕ, Bool, true, false, nat_lt, Option, Some, None, List, [], ◌∷◌}
 use Rattle.php_ast.specs.declared.statement.SwitchForm.{SwitchForm}
 use Rattle.php_ast.specs.declared.statement.SwitchForm.TheVariants as switch_form
 use Rattle.php_ast.specs.declared.statement.CaseEnd.{CaseEnd}
@@ -12,9 +12,9 @@ use Rattle.php_ast.specs.Tree.{Items, none, and, plain}
 use Rattle.php_ast.specs.Sign.{Closer, paren, comma, double_arrow, colon, semicolon, is_ampersand, is_colon, is_left_brace}
 use Rattle.php_ast.specs.Machine.{Nothing, Form, State, expects, past_static, pick, advance}
 use Rattle.php_ast.specs.Run.{either, if_some, through_expression}
-use Rattle.php_ast.specs.Statements.{Sequence, empty, then_also, Name, Variable, Constant, Target, Jump}
-use Rattle.php_ast.specs.Statements.{Statement, block, blank, inline, expression, echo, globals, statics, unset, constants, jump, throw, if_only, if_else, if_lists, if_else_lists, while, do_while, for, foreach, switch, try_catch, try_finally, declares}
-use Rattle.php_ast.specs.Statements.{Statements, no_statement, and_statement, ElseIfs, no_elseif, and_elseif, ElseIfLists, no_elseif_list, and_elseif_list, Body, single, list_behind_colon, Cases, no_case, and_case, Catches, no_catch, and_catch}
+use Rattle.php_ast.specs.Statements.{Sequence, empty, then_also, Name, Target}
+use Rattle.php_ast.specs.Statements.{Statement, block, blank, inline, expression, echo, globals, statics, unset, constants, jump, throw, if_lists, if_else_lists, while, do_while, for, foreach, switch, try_catch, try_finally, declares}
+use Rattle.php_ast.specs.Statements.{Statements, no_statement, and_statement, no_elseif, and_elseif, ElseIfLists, no_elseif_list, and_elseif_list, list_behind_colon, Cases, no_case, and_case, Catches, no_catch, and_catch}
 use Rattle.php_ast.specs.StatementForms.{Loop, while_loop, for_loop, foreach_loop, StatementList, of_block, of_if, of_elseif, of_else, of_loop, of_case, of_try, of_catch, of_finally, list_open, if_open, elseif_open, else_open, loop_open, do_open, OpenStatement, Around, Head, if_head, elseif_head, elseif_list_head, while_head, do_head, switch_head, Values, of_echo, of_unset, of_starts, of_tests, of_steps, ExpressionPlace, as_line, as_value, as_static, as_constant, as_jump, as_thrown, as_test, as_walked, as_first, as_second, as_label, Names, of_globals, of_statics, of_constants, of_classes, of_declare, StatementState, due_statement, done, due, in_expression, due_in_list, due_value, due_name, past_name, due_int, past_static_word, past_jump, past_if, past_loop, past_as, past_key, past_switch, due_case, past_default, past_block, completed_statement}
 use Rattle.php_ast.specs.StatementSign.{StatementBeginning, at_block, at_blank, at_inline, at_echo, at_global, at_static, at_unset, at_const, at_jump, at_throw, at_if, at_while, at_do, at_for, at_foreach, at_switch, at_try, at_declare, at_expression, statement_beginning, Behind, by_else, by_elseif, by_while, by_case, by_default, by_brace, by_endif, by_endwhile, by_endfor, by_endforeach, by_endswitch, by_catch, by_finally, behind, body_strength, Ending, closer, as_word, ending, Fixed, left_paren, right_paren, left_brace, colon_sign, semicolon_sign, is_fixed, is_semicolon, is_assign, is_bar, name_text, variable_text}
 

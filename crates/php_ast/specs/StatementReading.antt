@@ -1,6 +1,6 @@
 -- Where the machine of statements halts: the statement that has been read, ended as shortly as possible, and a whole
 -- reading.
-use Rattle.std.specs.Prelude.{ℤ, pos, Bool, true, false, Option, Some, None, List, [], ◌∷◌}
+use Rattle.std.specs.Prelude.{pos, false, Option, Some, None, List, [], ◌∷◌}
 use Rattle.php_lex.specs.declared.kind.Keyword.{Keyword}
 use Rattle.php_lex.specs.declared.kind.Keyword.TheVariants as word
 use Rattle.php_lex.specs.declared.kind.Punct.TheVariants as mark
@@ -15,7 +15,7 @@ use Rattle.php_ast.specs.Statements.{empty, then_also, Name, Statement, blank, e
 use Rattle.php_ast.specs.Statements.{no_statement, no_elseif, and_elseif, and_elseif_list, single, no_case, and_case, no_catch, and_catch}
 use Rattle.php_ast.specs.StatementSpelling.{cases_closing}
 use Rattle.php_ast.specs.StatementSign.{Fixed, fixed_symbol}
-use Rattle.php_ast.specs.StatementForms.{Loop, while_loop, for_loop, foreach_loop, StatementList, of_block, of_if, of_elseif, of_else, of_loop, of_case, of_try, of_catch, of_finally, list_open, do_open, OpenStatement, Around, Head, if_head, elseif_head, elseif_list_head, while_head, do_head, switch_head, Values, of_echo, of_unset, of_starts, of_tests, of_steps, ExpressionPlace, as_line, as_value, as_static, as_constant, as_jump, as_thrown, as_test, as_walked, as_first, as_second, as_label, Names, of_globals, of_statics, of_constants, of_classes, of_declare, StatementState, due_statement, done, due, in_expression, due_in_list, due_value, due_name, past_name, due_int, past_static_word, past_jump, past_if, past_loop, past_as, past_key, past_switch, due_case, past_default, past_block, looped, listed_statement, completed_statement}
+use Rattle.php_ast.specs.StatementForms.{Loop, while_loop, for_loop, foreach_loop, StatementList, of_if, of_elseif, of_else, of_loop, of_case, of_try, list_open, do_open, OpenStatement, Around, Head, if_head, elseif_head, elseif_list_head, while_head, do_head, switch_head, Values, of_echo, of_unset, of_starts, of_tests, of_steps, ExpressionPlace, as_line, as_value, as_static, as_constant, as_jump, as_thrown, as_test, as_walked, as_first, as_second, as_label, Names, of_globals, of_statics, of_constants, of_classes, of_declare, StatementState, due_statement, done, due, in_expression, due_in_list, due_value, due_name, past_name, due_int, past_static_word, past_jump, past_if, past_loop, past_as, past_key, past_switch, due_case, past_default, past_block, looped, listed_statement, completed_statement}
 use Rattle.php_ast.specs.StatementMachine.{target, advance_statement}
 
 -- ---- the symbols that end a form, before what follows
