@@ -3,6 +3,8 @@ mod Signs
 mod Sound
 mod Fill
 mod Settle
+mod SoundSteps
+mod SoundLists
 mod Soundness
 mod Trees
 mod Steps
