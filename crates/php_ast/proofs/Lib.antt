@@ -19,3 +19,4 @@ mod DeclarationExamples
 mod TraceSteps
 mod TraceBack
 mod Sizes
+mod Walks

@@ -158,11 +158,11 @@ every_step_leads (past_yield s) t h = yield_leads t s h
 
 -- The tree is proper. The symbols read, with the missing ones, spell it; with the unread ones they are
 -- the whole list.
-pub record BeginsFrom (m : State) (w : List Symbol) (o : Reading) : Type 0 where
-  pub proper : Proper o.tree
+pub record BeginsFrom (m : State) (w : List Symbol) (reading : Reading) : Type 0 where
+  pub proper : Proper reading.tree
   pub read : List Symbol
-  pub whole : w ≡ read ++ o.unread
-  pub spelled : spell o.tree [] ≡ symbols_so_far m (read ++ o.missing)
+  pub whole : w ≡ read ++ reading.unread
+  pub spelled : spell reading.tree [] ≡ symbols_so_far m (read ++ reading.missing)
 
 -- a stop, from its tree and what that lacks
 stop_begins_with : (m : State) (w : List Symbol) (e : Form) (s : OpenForms) (v : List Symbol) → IsFitting e s → ends_bare e ≡ false

@@ -1,8 +1,9 @@
 -- The walk to the first token that is too deep, the same for expressions, statements, signatures and scripts: a machine
 -- takes one symbol after the other, and the nesting of each that it takes is counted by what was read before it.
-use Rattle.std.specs.Prelude.{ℕ, suc, ◌+◌, nat_lt, Option, Some, None, List, [], ◌∷◌}
+use Rattle.std.specs.Prelude.{◌≡◌, ℕ, suc, ◌+◌, nat_lt, Option, Some, None, List, [], ◌∷◌}
 use Rattle.php_ast.specs.Symbol.{Symbol}
-use Rattle.php_ast.specs.Machine.{pick}
+use Rattle.php_ast.specs.Machine.{State, pick, advance}
+use Rattle.php_ast.specs.Depth.{depth_at, depths_read}
 
 abbrev pub taken : {M : Type 0} → Option M → ℕ → (M → List ℕ) → List ℕ
 taken (Some m) n f = n ∷ f m
@@ -12,6 +13,10 @@ taken None n f = []
 abbrev pub depths_taken : {M : Type 0} → (M → Symbol → Option M) → (M → Symbol → ℕ) → M → List Symbol → List ℕ
 depths_taken step depth m [] = []
 depths_taken step depth m (t ∷ w) = taken (step m t) (depth m t) (λ n. depths_taken step depth n w)
+
+-- For expressions this is the nesting that the laws speak of.
+abbrev pub WalksAgree : Type 0
+WalksAgree = (m : State) (w : List Symbol) → depths_taken advance depth_at m w ≡ depths_read m w
 
 -- the greatest nesting that a token may have
 abbrev pub nesting_limit : ℕ
