@@ -1,4 +1,5 @@
 mod Examples
+mod FormExamples
 mod Signs
 mod Sound
 mod Fill
