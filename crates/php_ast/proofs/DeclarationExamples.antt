@@ -1,6 +1,6 @@
 -- Examples of declarations and scripts, each by computing: the spelling of a script is read back to that script, the
 -- nesting counted at each symbol is that of the tree, and each note is about the right token.
-use Rattle.std.proofs.Common.{◌≡◌, ℕ, ◌+◌, true, false, Option, Some, None, [], ◌∷◌, refl}
+use Rattle.std.proofs.Common.{◌≡◌, ℕ, zero, suc, ◌+◌, true, false, Option, Some, None, [], ◌∷◌, refl, pos}
 use Rattle.php_lex.specs.declared.kind.Keyword.TheVariants as word
 use Rattle.php_lex.specs.declared.kind.Punct.TheVariants as mark
 use Rattle.php_ast.specs.declared.declaration.ModifierWord.{ModifierWord}
@@ -10,7 +10,7 @@ use Rattle.php_ast.specs.declared.declaration.Visibility.TheVariants as visibili
 use Rattle.php_ast.specs.Symbol as symbol
 use Rattle.php_ast.specs.Symbol.{Symbol, keyword, punct}
 use Rattle.php_ast.specs.Tree as tree
-use Rattle.php_ast.specs.Tree.{Tree, variable, int, leaf, static_member, held, none, and, plain}
+use Rattle.php_ast.specs.Tree.{Tree, variable, int, leaf, static_member, held, none, and, plain, enclosed, parentheses}
 use Rattle.php_ast.specs.Machine.{Form, Nothing, any_symbol}
 use Rattle.php_ast.specs.Placed.{Notes}
 use Rattle.php_ast.specs.Statements.{Sequence, empty, then_also, Name, Variable, Statement, blank, inline, expression, echo, if_only, jump, returning, Statements, no_statement, and_statement, no_elseif}
@@ -21,6 +21,7 @@ use Rattle.php_ast.specs.DeclarationPlaced.{noted_script}
 use Rattle.php_ast.specs.SignatureMachine.{read_signature}
 use Rattle.php_ast.specs.MemberMachine.{read_member}
 use Rattle.php_ast.specs.ScriptMachine.{read_script}
+use Rattle.php_ast.specs.TooDeep.{first_too_deep}
 use Rattle.php_ast.specs.DeclarationDepth.{signature_depths_read, member_depths_read, script_depths_read}
 
 -- ---- shorthand
@@ -319,6 +320,23 @@ nests_class :
     })))
     ≡ 0 ∷ 0 ∷ 0 ∷ 1 ∷ 1 ∷ 1 ∷ 2 ∷ 2 ∷ 2 ∷ 2 ∷ 2 ∷ 1 ∷ 1 ∷ 1 ∷ 1 ∷ 1 ∷ 1 ∷ 1 ∷ 1 ∷ 1 ∷ 1 ∷ 1 ∷ 2 ∷ 1 ∷ 2 ∷ 2 ∷ 2 ∷ 1 ∷ []
 nests_class = refl
+
+-- ---- the first token that is too deep
+
+-- `1` in so many parentheses
+abbrev grouped : ℕ → Form
+grouped zero = leaf tt (int (pos 1))
+grouped (suc k) = enclosed tt parentheses (grouped k)
+
+abbrev echoed : ℕ → Script Nothing
+echoed k = only (of_statement (echo tt (and none plain (grouped k))))
+
+-- `echo` with the `1` in 128 parentheses is deep enough; in 129 the `1` is too deep, and is token 130
+echoed_enough : first_too_deep 0 (script_depths_read (spell_script (echoed 128))) ≡ None
+echoed_enough = refl
+
+echoed_too_deep : first_too_deep 0 (script_depths_read (spell_script (echoed 129))) ≡ Some 130
+echoed_too_deep = refl
 
 -- ---- notes: with the number of each token as its note
 
