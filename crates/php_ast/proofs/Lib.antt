@@ -21,3 +21,4 @@ mod TraceSteps
 mod TraceBack
 mod Sizes
 mod Walks
+mod Inside
