@@ -22,3 +22,5 @@ mod TraceBack
 mod Sizes
 mod Walks
 mod Inside
+mod StatementStarts
+mod StatementParts

@@ -30,6 +30,7 @@ pub mod StatementMachine
 pub mod StatementReading
 pub mod TooDeep
 pub mod StatementDepth
+pub mod StatementLaws
 pub mod SignatureMachine
 pub mod FunctionMachine
 pub mod MemberMachine
