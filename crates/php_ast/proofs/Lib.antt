@@ -24,3 +24,5 @@ mod Walks
 mod Inside
 mod StatementStarts
 mod StatementParts
+mod StatementBack
+mod StatementLawProofs

@@ -5,29 +5,26 @@ use Rattle.php_lex.specs.declared.kind.Keyword.{Keyword}
 use Rattle.php_lex.specs.declared.kind.Keyword.TheVariants as word
 use Rattle.php_lex.specs.declared.kind.Punct.{Punct}
 use Rattle.php_lex.specs.declared.kind.Punct.TheVariants as mark
-use Rattle.php_ast.specs.declared.statement.SwitchForm.{SwitchForm}
-use Rattle.php_ast.specs.declared.statement.CaseEnd.{CaseEnd}
-use Rattle.php_ast.specs.declared.statement.CaseEnd.TheVariants as case_end
 use Rattle.php_ast.specs.Symbol as symbol
 use Rattle.php_ast.specs.Symbol.{Symbol, keyword, punct}
-use Rattle.php_ast.specs.Tree.{Items, none, and, skip, Lead, plain, reference, spread, keyed, keyed_reference}
+use Rattle.php_ast.specs.Tree.{Items, none, and, skip, plain, reference, spread, keyed, keyed_reference}
 use Rattle.php_ast.specs.Spelling.{spell, spell_items}
 use Rattle.php_ast.specs.Proper.{Proper, ends_bare, IsKey, AreValues, AreProperItems, is_none}
-use Rattle.php_ast.specs.Sign.{beginning, is_ampersand}
-use Rattle.php_ast.specs.Machine.{Nothing, Form, State, expects, pick, advance}
+use Rattle.php_ast.specs.Sign.{beginning}
+use Rattle.php_ast.specs.Machine.{Nothing, Form, expects, pick}
 use Rattle.php_ast.specs.Laws.{EndsBefore}
 use Rattle.php_ast.specs.Run.{either, or_halted}
-use Rattle.php_ast.specs.Statements.{Sequence, empty, then_also, Name, Variable, Constant, Target, Jump, Statement, globals, statics, constants, jump, Statements, no_statement, Cases, no_case, and_case, Catches, no_catch, and_catch, try_catch}
+use Rattle.php_ast.specs.Statements.{Sequence, empty, then_also, Name, Variable, Constant, Target, Jump, Statement, statics, constants, jump, Statements, Catches, and_catch, try_catch}
 use Rattle.php_ast.specs.StatementSpelling.{separated, commas, spell_name, spell_dollar, spell_value, spell_variable, spell_constant, spell_target, spell_key}
 use Rattle.php_ast.specs.ProperStatement.{Each, IfAny, AreSome, AreAny, IsProperTarget, IsProperKey}
 use Rattle.php_ast.specs.StatementSign.{at_expression, statement_beginning, statement_keyword, statement_punct, Behind, by_else, by_catch, by_finally, behind, body_strength, ending}
-use Rattle.php_ast.specs.StatementForms.{of_if, of_loop, list_open, if_open, elseif_open, else_open, loop_open, do_open, OpenStatement, Around, Loop, foreach_loop, Values, ExpressionPlace, as_line, as_value, as_static, as_constant, as_jump, as_walked, as_first, as_second, of_globals, of_statics, of_constants, of_classes, StatementState, due_statement, done, in_expression, due_value, due_name, past_name, past_static_word, past_jump, past_if, past_loop, past_as, past_key, past_block, completed_statement}
+use Rattle.php_ast.specs.StatementForms.{of_if, of_loop, list_open, if_open, elseif_open, else_open, loop_open, do_open, OpenStatement, Around, Loop, foreach_loop, Values, ExpressionPlace, as_line, as_value, as_static, as_constant, as_jump, as_first, as_second, of_globals, of_statics, of_constants, of_classes, StatementState, due_statement, done, in_expression, due_value, due_name, past_name, past_static_word, past_jump, past_if, past_loop, past_as, past_key, past_block, completed_statement}
 use Rattle.php_ast.specs.StatementMachine.{body_level, released_bodies, reached_step, expected, entered, listing, begun, begin, values_step, filled, target, block_step, past_statement, advance_statement}
 use Rattle.php_ast.specs.StatementReading.{halt_statement}
 use Rattle.php_ast.specs.StatementLaws.{is_catching, head_behind}
 use Rattle.php_ast.proofs.Trees.{begins_some, Starts, starts}
 use Rattle.php_ast.proofs.Inside.{Reader, expression_read}
-use Rattle.php_ast.proofs.StatementStarts.{run, entered_on, or_some, begins_no_ending, begins_no_semicolon, begins_no_ampersand, starts_statement, StartsStatement, starts_no_colon, begin_goes, StaticFits, static_fits}
+use Rattle.php_ast.proofs.StatementStarts.{run, entered_on, or_some, begins_no_ending, begins_no_semicolon, begins_no_ampersand, StartsStatement, starts_no_colon, begin_goes, StaticFits}
 
 -- ---- expressions
 
@@ -307,7 +304,7 @@ pub body_ended : (f : OpenStatement) (a : Statement Nothing) (o : Around) (w : L
 body_ended f a o [] h = halts_ended f a o [] 0 h
 body_ended f a o (t ∷ w) h =
     ap (λ b. or_halted (reached_step (pick b (released_bodies (body_strength (behind t)) o (completed_statement f a)) (record { tree = a; around = f ∷ o })) t (behind t)) (λ n. run n w)
-        (halt_statement (done a (f ∷ o)) (t ∷ w))) h
+    (halt_statement (done a (f ∷ o)) (t ∷ w))) h
     ∙ ap (or_halted (reached_step (released_bodies (body_strength (behind t)) o (completed_statement f a)) t (behind t)) (λ n. run n w)) (halts_ended f a o (t ∷ w) (body_strength (behind t)) h)
 
 strength_small : (x : Behind) → nat_lt (body_strength x) 2 ≡ true

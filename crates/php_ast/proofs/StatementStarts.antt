@@ -1,6 +1,5 @@
 -- The first symbols of statements and of expressions in them, and what ends a list or a body.
-use Rattle.std.proofs.Common.{◌≡◌, ℕ, Bool, true, false, Option, Some, None, List, [], ◌∷◌, refl, sym, ◌∙◌, ap}
-use Rattle.std.specs.Prelude.{nat_lt}
+use Rattle.std.proofs.Common.{◌≡◌, Bool, true, false, Option, Some, None, List, [], ◌∷◌, refl, ◌∙◌, ap}
 use Rattle.php_lex.specs.declared.kind.Keyword.{Keyword}
 use Rattle.php_lex.specs.declared.kind.Keyword.TheVariants as word
 use Rattle.php_lex.specs.declared.kind.Punct.{Punct}
@@ -11,20 +10,19 @@ use Rattle.php_ast.specs.declared.operator.Prefix.TheVariants as prefix_op
 use Rattle.php_ast.specs.declared.statement.SwitchForm.TheVariants as switch_form
 use Rattle.php_ast.specs.Symbol as symbol
 use Rattle.php_ast.specs.Symbol.{Symbol, keyword, punct}
-use Rattle.php_ast.specs.Tree.{Leaf, variable, int, string, name, magic, Enclosure, parentheses, emptiness, exiting, Listing, array, isset, Items}
-use Rattle.php_ast.specs.Tree.{leaf, template, enclosed, listed, exit, exit_empty, static_member, append, index, selected, computed, call, new, new_with, prefix, counted, binary, instance, static_instance, choice, short_choice, assign, yield_nothing, yield_value, yield_pair}
-use Rattle.php_ast.specs.Operators.{prefix_symbol, magic_symbol}
-use Rattle.php_ast.specs.declared.operator.Magic.{Magic}
+use Rattle.php_ast.specs.Tree.{Leaf, magic, parentheses, emptiness, exiting, array, isset}
+use Rattle.php_ast.specs.Tree.{leaf, template, enclosed, listed, static_member, append, index, selected, computed, call, prefix, counted, binary, instance, static_instance, choice, short_choice, assign}
+use Rattle.php_ast.specs.Operators.{prefix_symbol}
 use Rattle.php_ast.specs.declared.operator.Magic.TheVariants as magic_word
 use Rattle.php_ast.specs.Spelling.{spell, leaf_symbol}
 use Rattle.php_ast.specs.Sign.{Beginning, is_leaf, is_static, is_quote, is_exit, is_new, is_yield, encloses, lists, prefixes, begins_nothing, beginning, is_ampersand, is_colon}
-use Rattle.php_ast.specs.Machine.{Nothing, Form, State, expects, started, advance, pick}
+use Rattle.php_ast.specs.Machine.{Nothing, Form, State, expects, started, advance}
 use Rattle.php_ast.specs.Run.{either, if_some, ReadingOf, or_halted}
-use Rattle.php_ast.specs.Statements.{Statement, block, blank, inline, expression, echo, globals, statics, unset, constants, jump, throw, if_only, if_else, if_lists, if_else_lists, while, do_while, for, foreach, switch, try_catch, try_finally, declares, returning, breaking, continuing, Statements, no_statement, and_statement}
+use Rattle.php_ast.specs.Statements.{Statement, expression, jump, returning, breaking, continuing, Statements, no_statement, and_statement}
 use Rattle.php_ast.specs.StatementSpelling.{spell_statement}
-use Rattle.php_ast.specs.StatementSign.{StatementBeginning, at_expression, statement_beginning, statement_keyword, Behind, by_else, by_while, by_other, behind, behind_keyword, body_strength, ending, no_ending, is_semicolon}
-use Rattle.php_ast.specs.StatementForms.{Loop, while_loop, for_loop, foreach_loop, StatementList, of_block, of_if, of_elseif, of_else, of_loop, of_case, of_try, of_catch, of_finally, list_open, Around, as_line, StatementState, due_statement, done, in_expression, due_in_list}
-use Rattle.php_ast.specs.StatementMachine.{begun, begin, entered, list_end, list_step, released_bodies, reached_step, past_statement, advance_statement}
+use Rattle.php_ast.specs.StatementSign.{StatementBeginning, at_expression, statement_beginning, Behind, by_else, by_while, by_other, behind, behind_keyword, body_strength, ending, no_ending, is_semicolon}
+use Rattle.php_ast.specs.StatementForms.{while_loop, for_loop, foreach_loop, StatementList, of_block, of_if, of_elseif, of_else, of_loop, of_case, of_try, of_catch, of_finally, list_open, Around, as_line, StatementState, due_statement, done, in_expression, due_in_list}
+use Rattle.php_ast.specs.StatementMachine.{begun, begin, list_end, list_step, released_bodies, reached_step}
 use Rattle.php_ast.specs.StatementReading.{StatementReading, halt_statement, read_statement_from}
 use Rattle.php_ast.proofs.Trees.{begins_some, Starts, starts}
 

@@ -2,7 +2,6 @@
 use Rattle.std.specs.Prelude.{◌≡◌, Bool, true, false, List, [], ◌∷◌}
 use Rattle.php_ast.specs.Symbol.{Symbol}
 use Rattle.php_ast.specs.Machine.{Nothing}
-use Rattle.php_ast.specs.Run.{ReadingOf}
 use Rattle.php_ast.specs.Statements.{Statement, if_only, if_else, while, for, foreach, try_catch, ElseIfs, no_elseif, and_elseif, Body, single, list_behind_colon}
 use Rattle.php_ast.specs.StatementSpelling.{spell_statement}
 use Rattle.php_ast.specs.ProperStatement.{takes_else, IsProper}
