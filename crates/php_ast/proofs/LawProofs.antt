@@ -82,7 +82,7 @@ yield_left : (b : Bool) (s : OpenForms) (w : List Symbol) → (halt_yield b s w)
 yield_left true s w = refl
 yield_left false s w = refl
 
-halt_unread : (m : State) (w : List Symbol) → (halt m w).unread ≡ w
+pub halt_unread : (m : State) (w : List Symbol) → (halt m w).unread ≡ w
 halt_unread (past_static s) w = static_left s w
 halt_unread (past_yield s) w = yield_left (is_last w (missing_end s)) s w
 halt_unread (expects s) w = refl

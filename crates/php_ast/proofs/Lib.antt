@@ -1,8 +1,11 @@
 mod Examples
+mod FormExamples
 mod Signs
 mod Sound
 mod Fill
 mod Settle
+mod SoundSteps
+mod SoundLists
 mod Soundness
 mod Trees
 mod Steps
@@ -12,6 +15,14 @@ mod Notes
 mod LawProofs
 mod RulesAgree
 mod StatementExamples
+mod StatementReadings
+mod DeclarationExamples
 mod TraceSteps
 mod TraceBack
 mod Sizes
+mod Walks
+mod Inside
+mod StatementStarts
+mod StatementParts
+mod StatementBack
+mod StatementLawProofs

@@ -1,5 +1,5 @@
 -- Examples of the spelling of statements and declarations, and of the nearest `if`, by computing.
-use Rattle.std.proofs.Common.{◌≡◌, ℕ, true, false, Some, None, [], ◌∷◌, refl}
+use Rattle.std.proofs.Common.{◌≡◌, ℕ, pos, true, false, Some, None, [], ◌∷◌, refl}
 use Rattle.php_lex.specs.declared.kind.Keyword.TheVariants as word
 use Rattle.php_lex.specs.declared.kind.Punct.TheVariants as mark
 use Rattle.php_ast.specs.declared.statement.SwitchForm.TheVariants as switch_form
@@ -12,7 +12,7 @@ use Rattle.php_ast.specs.Symbol.{Symbol, keyword, punct}
 use Rattle.php_ast.specs.Tree as tree
 use Rattle.php_ast.specs.Tree.{variable, int, leaf, none, and, plain}
 use Rattle.php_ast.specs.Machine.{Form, Nothing}
-use Rattle.php_ast.specs.Statements.{empty, then_also, Name, Statement, block, expression, echo, statics, jump, if_only, if_else, if_else_lists, while, do_while, foreach, switch, try_catch, returning, Statements, no_statement, and_statement, no_elseif, and_elseif, no_elseif_list, single, list_behind_colon, no_case, and_case, no_catch, and_catch}
+use Rattle.php_ast.specs.Statements.{empty, then_also, Name, Statement, block, expression, echo, statics, unset, jump, if_only, if_else, if_else_lists, while, do_while, for, foreach, switch, try_catch, try_finally, declares, returning, Statements, no_statement, and_statement, no_elseif, and_elseif, no_elseif_list, and_elseif_list, single, list_behind_colon, no_case, and_case, no_catch, and_catch}
 use Rattle.php_ast.specs.StatementSpelling.{spell_statement}
 use Rattle.php_ast.specs.ProperStatement.{IsProper}
 use Rattle.php_ast.specs.StatementNesting.{nests_statement}
@@ -91,6 +91,12 @@ spelled_endwhile = refl
 spelled_do : spell_statement (do_while tt (line 97) (v 98)) []
     ≡ keyword word.Do ∷ sv 97 ∷ punct mark.Semicolon ∷ keyword word.While ∷ punct mark.LeftParen ∷ sv 98 ∷ punct mark.RightParen ∷ punct mark.Semicolon ∷ []
 spelled_do = refl
+
+-- `for ($a, $b; ; $c) {}`
+spelled_for : spell_statement (for tt (and (and none plain (v 97)) plain (v 98)) none (and none plain (v 99)) (single (block tt no_statement))) []
+    ≡ keyword word.For ∷ punct mark.LeftParen ∷ sv 97 ∷ punct mark.Comma ∷ sv 98 ∷ punct mark.Semicolon ∷ punct mark.Semicolon ∷ sv 99 ∷ punct mark.RightParen
+    ∷ punct mark.LeftBrace ∷ punct mark.RightBrace ∷ []
+spelled_for = refl
 
 -- `foreach ($a as $k => &$v) $c;`
 spelled_foreach :
@@ -201,6 +207,57 @@ nests_switch = refl
 nests_try : nests_statement (try_catch tt no_statement (and_catch no_catch (then_also empty (n 65)) (n 101) no_statement)) 0 []
     ≡ 0 ∷ 0 ∷ 1 ∷ 0 ∷ 0 ∷ 1 ∷ 1 ∷ 1 ∷ 0 ∷ 1 ∷ []
 nests_try = refl
+
+-- `try {} finally { $a; }`
+nests_finally : nests_statement (try_finally tt no_statement no_catch (one (line 97))) 0 [] ≡ 0 ∷ 0 ∷ 1 ∷ 0 ∷ 0 ∷ 1 ∷ 1 ∷ 1 ∷ []
+nests_finally = refl
+
+-- `if ($a) $b; elseif ($c) $d; else { $e; }`: the block nests once
+nests_elseif : nests_statement (if_else tt (v 97) (line 98) (and_elseif no_elseif (v 99) (line 100)) (block tt (one (line 101)))) 0 []
+    ≡ 0 ∷ 0 ∷ 1 ∷ 1 ∷ 1 ∷ 1 ∷ 0 ∷ 0 ∷ 1 ∷ 1 ∷ 1 ∷ 1 ∷ 0 ∷ 0 ∷ 1 ∷ 1 ∷ 1 ∷ []
+nests_elseif = refl
+
+-- `if ($a): $b; elseif ($c): $d; else: $e; endif;`
+nests_lists : nests_statement (if_else_lists tt (v 97) (one (line 98)) (and_elseif_list no_elseif_list (v 99) (one (line 100))) (one (line 101))) 0 []
+    ≡ 0 ∷ 0 ∷ 1 ∷ 1 ∷ 0 ∷ 1 ∷ 1 ∷ 0 ∷ 0 ∷ 1 ∷ 1 ∷ 0 ∷ 1 ∷ 1 ∷ 0 ∷ 0 ∷ 1 ∷ 1 ∷ 0 ∷ 0 ∷ []
+nests_lists = refl
+
+-- `if ($a) while ($b) $c;`: a body in a body
+nests_body_in_body : nests_statement (if_only tt (v 97) (while tt (v 98) (single (line 99))) no_elseif) 0 [] ≡ 0 ∷ 0 ∷ 1 ∷ 1 ∷ 1 ∷ 1 ∷ 2 ∷ 2 ∷ 2 ∷ 2 ∷ []
+nests_body_in_body = refl
+
+-- `do $a; while ($b);`
+nests_do : nests_statement (do_while tt (line 97) (v 98)) 0 [] ≡ 0 ∷ 1 ∷ 1 ∷ 0 ∷ 0 ∷ 1 ∷ 1 ∷ 0 ∷ []
+nests_do = refl
+
+-- `for ($a; $b; $c) $d;` and `for (;;): $a; endfor;`
+nests_for : nests_statement (for tt (and none plain (v 97)) (and none plain (v 98)) (and none plain (v 99)) (single (line 100))) 0 []
+    ≡ 0 ∷ 0 ∷ 1 ∷ 1 ∷ 1 ∷ 1 ∷ 1 ∷ 1 ∷ 1 ∷ 1 ∷ []
+nests_for = refl
+
+nests_endfor : nests_statement (for tt none none none (list_behind_colon (one (line 97)))) 0 [] ≡ 0 ∷ 0 ∷ 1 ∷ 1 ∷ 1 ∷ 0 ∷ 1 ∷ 1 ∷ 0 ∷ 0 ∷ []
+nests_endfor = refl
+
+-- `foreach ($a as $b => &$c) {}`
+nests_foreach :
+    nests_statement (foreach tt (v 97) (Some (record { is_reference = false; place = v 98 })) (record { is_reference = true; place = v 99 }) (single (block tt no_statement))) 0 []
+    ≡ 0 ∷ 0 ∷ 1 ∷ 1 ∷ 1 ∷ 1 ∷ 1 ∷ 1 ∷ 1 ∷ 0 ∷ 1 ∷ []
+nests_foreach = refl
+
+-- `switch ($a) { default: $b; }`
+nests_switch_block : nests_statement (switch tt (v 97) switch_form.Braces (and_case no_case tt None case_end.Colon (one (line 98)))) 0 []
+    ≡ 0 ∷ 0 ∷ 1 ∷ 1 ∷ 0 ∷ 1 ∷ 1 ∷ 1 ∷ 1 ∷ 1 ∷ []
+nests_switch_block = refl
+
+-- `unset($a);`, `declare(a = 1);` and `static $a = $b;`, whose value doesn't nest
+nests_unset : nests_statement (unset tt (and none plain (v 97))) 0 [] ≡ 0 ∷ 0 ∷ 1 ∷ 1 ∷ 0 ∷ []
+nests_unset = refl
+
+nests_declare : nests_statement (declares tt (n 97) (pos 1)) 0 [] ≡ 0 ∷ 0 ∷ 1 ∷ 1 ∷ 1 ∷ 1 ∷ 0 ∷ []
+nests_declare = refl
+
+nests_static : nests_statement (statics tt (then_also empty (record { name = n 97; value = Some (v 98) }))) 0 [] ≡ 0 ∷ 0 ∷ 0 ∷ 0 ∷ 0 ∷ []
+nests_static = refl
 
 -- ---- notes: with the number of each token as its note
 

@@ -21,7 +21,7 @@ SizesAgree = (e : Form) (w : List Symbol) → length (spell e w) ≡ size e + le
 -- ---- what symbols spell and begin
 
 abbrev pub Spells : Form → List Symbol → Type 0
-Spells e w = Proper e × (spell e [] ≡ w)
+Spells tree w = Proper tree × (spell tree [] ≡ w)
 
 -- the symbols begin an expression
 pub record BeginsExpression (w : List Symbol) : Type 0 where
@@ -33,11 +33,11 @@ pub record BeginsExpression (w : List Symbol) : Type 0 where
 
 -- The tree is proper, and its spelling is what was read and what it lacks; what was read and what is left
 -- are all the symbols.
-pub record BeginsWith (w : List Symbol) (o : Reading) : Type 0 where
-  pub proper : Proper o.tree
+pub record BeginsWith (w : List Symbol) (reading : Reading) : Type 0 where
+  pub proper : Proper reading.tree
   pub done : List Symbol
-  pub whole : w ≡ done ++ o.unread
-  pub spelled : spell o.tree [] ≡ done ++ o.missing
+  pub whole : w ≡ done ++ reading.unread
+  pub spelled : spell reading.tree [] ≡ done ++ reading.missing
 
 abbrev pub ReadingBegins : Type 0
 ReadingBegins = (w : List Symbol) → BeginsWith w (read w)

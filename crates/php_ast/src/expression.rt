@@ -41,7 +41,7 @@ pub enum Expr {
     /// `__LINE__` and its kin.
     Magic(Spot, Magic),
     /// An operand with its suffixes, one or more. The operand is none of `new`.
-    Chain(Boxed<Expr>, Items<Suffix<Expr>>),
+    Chain(Boxed<Self>, Items<Suffix<Self>>),
     /// `new` without arguments
     New(Spot, Class<Expr>),
     /// `new` with arguments in parentheses
@@ -51,7 +51,7 @@ pub enum Expr {
     /// `operand++` or `operand--`
     Counted(Boxed<Expr>, Count),
     /// Operators of one power that groups from the left: the first operand, then one link or more.
-    Run(Boxed<Expr>, Items<Link<Expr>>),
+    Run(Boxed<Self>, Items<Link<Self>>),
     /// An operator whose power groups from the right or not at all.
     Binary(Binary, Boxed<Expr>, Boxed<Expr>),
     /// `left instanceof class`. The class is an operand that is no call.
@@ -103,7 +103,7 @@ pub enum Argument<E> {
     Spread(E),
 }
 
-/// What follows an operand.
+/// What may stand behind an operand.
 #[derive(Drop)]
 pub enum Suffix<E> {
     /// `[]`

@@ -4,6 +4,8 @@
 ghost use Rattle.php_ast.specs.Laws.{ReadingBegins, ReadsBack, OneForm, OneTree};
 ghost use Rattle.php_ast.specs.Laws.{NestingAgrees, SizesAgree, StopsExactly, Unfinished};
 ghost use Rattle.php_ast.specs.Rules.{RulesAgree};
+ghost use Rattle.php_ast.specs.StatementLaws.{OneStatement, ReadsStatementsBack};
+ghost use Rattle.php_ast.specs.TooDeep.{WalksAgree};
 
 /// What a reading has read begins the spelling of a proper tree.
 pub fn reading_begins()
@@ -48,4 +50,19 @@ pub fn unfinished()
 /// Where a reading stops, the symbols begin no expression with one more.
 pub fn stops_exactly()
     ensures { StopsExactly }
+{}
+
+/// The walk to the first token that is too deep counts the nesting of an expression as its reading does.
+pub fn walks_agree()
+    ensures { WalksAgree }
+{}
+
+/// The spelling of a proper statement is read back to that statement.
+pub fn reads_statements_back()
+    ensures { ReadsStatementsBack }
+{}
+
+/// A list of symbols spells at most one statement.
+pub fn one_statement()
+    ensures { OneStatement }
 {}

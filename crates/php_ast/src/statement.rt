@@ -1,5 +1,6 @@
 // Statements. Each keeps how it is written: a body in braces is a statement that is a block, and a
-// body behind a colon is a list.
+// body behind a colon is a list. `elseif` parts, cases, `catch` parts and statements lie side by side in
+// lists, so that a walk over a tree, or its end, takes no more stack than the nesting allows.
 
 use crate::expression::Expr;
 use crate::spot::{Name, Spot};
