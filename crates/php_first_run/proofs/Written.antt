@@ -90,31 +90,19 @@ echoed-at texts values parts i part text within is worth =
     ap (λ ps. echoed texts values (map part_view ps)) (drop_at parts i part within is)
     ∙ ap (λ t. part_written values t (echoed texts values (map part_view (drop (i + 1) parts)))) worth
 
--- a statement that wants a tick, where one may be left
-abbrev begun : List (List ℕ) → ℕ → ℕ → List Value → meaning.Statement → List meaning.Statement → Bool → Outcome
-begun texts allowance ticks values s ss left =
-    if left
-    then followed_by (step texts values s.command) s.line (ticks + 1) (run texts allowance (ticks + 1) (step texts values s.command).values ss)
-    else record { ending = cut_off; ticks = ticks; output = [] }
-
-run-begun : (texts : List (List ℕ)) (allowance ticks : ℕ) (values : List Value) (statements : List Statement) (i : ℕ) (s : Statement) (left : Bool) →
-    i < length statements → s ≡ get_or statements i s → takes_tick (command_view s.action) ≡ true → nat_lt ticks allowance ≡ left →
-    run texts allowance ticks values (map statement_view (drop i statements))
-    ≡ begun texts allowance ticks values (statement_view s) (map statement_view (drop (i + 1) statements)) left
-run-begun texts allowance ticks values statements i s left within is takes may =
-    let rest = map statement_view (drop (i + 1) statements) in
-    let on = begun texts allowance ticks values (statement_view s) rest in
-    ap (λ ss. run texts allowance ticks values (map statement_view ss)) (drop_at statements i s within is)
-    ∙ ap (λ (b : Bool). if b then on (nat_lt ticks allowance) else run texts allowance ticks values rest) takes
-    ∙ ap on may
-
--- the statements from a place on, where a tick is left
+-- the statements from a place on, where the first one wants a tick and one is left
 pub run-at : (texts : List (List ℕ)) (allowance ticks : ℕ) (values : List Value) (statements : List Statement) (i : ℕ) (s : Statement) →
     i < length statements → s ≡ get_or statements i s → takes_tick (command_view s.action) ≡ true → nat_lt ticks allowance ≡ true →
     run texts allowance ticks values (map statement_view (drop i statements))
     ≡ followed_by (step texts values (command_view s.action)) s.line (ticks + 1)
     (run texts allowance (ticks + 1) (step texts values (command_view s.action)).values (map statement_view (drop (i + 1) statements)))
-run-at texts allowance ticks values statements i s within is takes left = run-begun texts allowance ticks values statements i s true within is takes left
+run-at texts allowance ticks values statements i s within is takes left =
+    let e = step texts values (command_view s.action) in
+    let rest = map statement_view (drop (i + 1) statements) in
+    let begun = λ (b : Bool). if b then followed_by e s.line (ticks + 1) (run texts allowance (ticks + 1) e.values rest) else record { ending = cut_off; ticks = ticks; output = [] } in
+    ap (λ ss. run texts allowance ticks values (map statement_view ss)) (drop_at statements i s within is)
+    ∙ ap (λ (b : Bool). if b then begun (nat_lt ticks allowance) else run texts allowance ticks values rest) takes
+    ∙ ap begun left
 
 -- what a statement writes is the beginning of what is written from it on
 pub followed_by-output : (e : Effect) (line ticks : ℕ) (rest : Outcome) → (more : List ℕ) × ((followed_by e line ticks rest).output ≡ e.bytes ++ more)

@@ -6,3 +6,4 @@ pub mod Headline
 pub mod Asked
 pub mod Message
 pub mod Shown
+pub mod Examples

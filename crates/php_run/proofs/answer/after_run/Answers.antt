@@ -1,4 +1,4 @@
-use Rattle.std.proofs.Common.{◌≡◌, ℕ, List, ap, ◌∙◌}
+use Rattle.std.proofs.Common.{ℕ, List, ap, ◌∙◌}
 use Rattle.php_run.specs.Answer.{Answer}
 use Rattle.php_run.specs.declared.report.Kind.{Kind}
 use Rattle.php_run.specs.declared.report.Kind.TheVariants as kind

@@ -1,4 +1,4 @@
-use Rattle.std.proofs.Common.{◌≡◌, ℕ, List, [], map, Some, refl}
+use Rattle.std.proofs.Common.{ℕ, List, [], map, Some, refl}
 use Rattle.php_first_tree.specs.Expression.{statement_view, Statement}
 use Rattle.php_first_run.specs.Running.{texts_of}
 use Rattle.php_first_run.specs.Walking.{Stream}
