@@ -6,6 +6,7 @@ mod comments;
 mod escapes;
 mod fail;
 mod heredocs;
+mod keywords;
 mod kind;
 mod laws;
 mod lexer;
