@@ -15,6 +15,7 @@ mod numbers;
 mod pieces;
 mod punctuators;
 mod search;
+mod simple;
 mod tokens;
 mod words;
 
