@@ -26,3 +26,5 @@ mod StatementStarts
 mod StatementParts
 mod StatementBack
 mod StatementLawProofs
+mod Machines
+mod SignatureBack
