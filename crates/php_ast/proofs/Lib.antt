@@ -28,3 +28,4 @@ mod StatementBack
 mod StatementLawProofs
 mod Machines
 mod SignatureBack
+mod FunctionBack

@@ -53,6 +53,33 @@ through_machine inner stop step outer halts r (x ∷ w) m a t v n is h =
     ap (λ u. or_halted u (λ k. run_of step outer k w) (outer (r.on m) (x ∷ w))) (r.steps m x)
     ∙ through_by inner stop step outer halts r (inner m x) m x w a t v n is (λ k. through_machine inner stop step outer halts r w k a t v n is) h
 
+-- ---- without the state that follows
+
+abbrev pub IsSome : {A : Type 0} → Option A → Type 0
+IsSome None = ⊥
+IsSome (Some x) = Unit {0}
+
+some_by : {M N A B : Type 0} (inner : M → Symbol → Option M) (stop : M → List Symbol → ReadingOf A) (step : N → Symbol → Option N) (outer : N → List Symbol → ReadingOf B)
+    (halts : Halts M A stop) (r : Holds M N A inner stop step) (w : List Symbol) (m : M) (a : A) (t : Symbol) (v : List Symbol) (b : ReadingOf B) (o : Option N)
+    → r.ended t a ≡ o → IsSome o → run_of inner stop m w ≡ reading a [] (t ∷ v) → run_of step outer (r.on m) w ≡ or_halted o (λ k. run_of step outer k v) b
+some_by inner stop step outer halts r w m a t v b (Some n) is goes h = through_machine inner stop step outer halts r w m a t v n is h
+some_by inner stop step outer halts r w m a t v b None is goes h = absurd goes
+
+pub through_some : {M N A B : Type 0} (inner : M → Symbol → Option M) (stop : M → List Symbol → ReadingOf A) (step : N → Symbol → Option N) (outer : N → List Symbol → ReadingOf B)
+    (halts : Halts M A stop) (r : Holds M N A inner stop step) (w : List Symbol) (m : M) (a : A) (t : Symbol) (v : List Symbol) (b : ReadingOf B)
+    → IsSome (r.ended t a) → run_of inner stop m w ≡ reading a [] (t ∷ v) → run_of step outer (r.on m) w ≡ or_halted (r.ended t a) (λ k. run_of step outer k v) b
+through_some inner stop step outer halts r w m a t v b goes h = some_by inner stop step outer halts r w m a t v b (r.ended t a) refl goes h
+
+-- where an inner machine begins with its first symbol, it was due before that
+pub some_either : {M N A : Type 0} (o : Option M) (on : M → N) (other : Option N) (f : N → ReadingOf A) (a b : ReadingOf A) → IsSome o
+    → or_halted (if_some o (λ m. Some (on m))) f a ≡ or_halted (either (if_some o (λ m. Some (on m))) other) f b
+some_either None on other f a b h = absurd h
+some_either (Some m) on other f a b h = refl
+
+pub some_in : {M N : Type 0} (on : M → N) (o : Option M) → IsSome o → IsSome (if_some o (λ m. Some (on m)))
+some_in on None h = absurd h
+some_in on (Some m) h = tt
+
 -- ---- at the end of all symbols
 
 nothing_more : (w : List Symbol) → w ≡ [] → w ++ [] ≡ []
