@@ -1,14 +1,14 @@
 -- Completeness of the machine of functions and methods.
-use Rattle.std.proofs.Common.{◌≡◌, Bool, true, false, Option, Some, None, List, [], ◌∷◌, ◌++◌, refl, sym, ◌∙◌, ap}
+use Rattle.std.proofs.Common.{◌≡◌, Bool, true, false, Option, Some, None, List, [], ◌∷◌, ◌++◌, refl, ◌∙◌, ap}
 use Rattle.php_lex.specs.declared.kind.Punct.{Punct}
 use Rattle.php_lex.specs.declared.kind.Punct.TheVariants as mark
 use Rattle.php_ast.specs.Symbol.{Symbol, punct}
 use Rattle.php_ast.specs.Machine.{Nothing, pick}
 use Rattle.php_ast.specs.Sign.{is_ampersand}
-use Rattle.php_ast.specs.Run.{either, if_some, ReadingOf, reading, or_halted, run_of}
+use Rattle.php_ast.specs.Run.{if_some, ReadingOf, reading, or_halted, run_of}
 use Rattle.php_ast.specs.Statements.{Statement, Statements, no_statement, and_statement}
 use Rattle.php_ast.specs.StatementSpelling.{sign_if, spell_statement, spell_statements}
-use Rattle.php_ast.specs.ProperStatement.{IsProper, AreProper}
+use Rattle.php_ast.specs.ProperStatement.{AreProper}
 use Rattle.php_ast.specs.Declarations.{Type_of, Signature}
 use Rattle.php_ast.specs.DeclarationSpelling.{spell_signature, spell_block, spell_method_body}
 use Rattle.php_ast.specs.ProperDeclaration.{IsProperSignature, IsProperMethodBody}
@@ -18,7 +18,7 @@ use Rattle.php_ast.specs.StatementMachine.{advance_statement}
 use Rattle.php_ast.specs.StatementReading.{halt_statement}
 use Rattle.php_ast.specs.SignatureMachine.{SignatureState, due_signature, advance_signature, halt_signature}
 use Rattle.php_ast.specs.FunctionMachine.{FunctionForm, Routine, routine, FunctionState, past_function, past_function_reference, in_signature, due_in_body, in_statement, past_routine, named_step, body_step, statement_step, block_step, advance_function, least_body, least_body_rest, halt_function}
-use Rattle.php_ast.specs.DeclarationLaws.{ResultEnds, SignatureEnds}
+use Rattle.php_ast.specs.DeclarationLaws.{ResultEnds}
 use Rattle.php_ast.proofs.Machines.{Halts, Holds, IsSome, through_machine, through_some, some_either, some_in}
 use Rattle.php_ast.proofs.StatementStarts.{starts_statement, StartsStatement, begin_goes, statement_starts}
 use Rattle.php_ast.proofs.StatementBack.{Quiet, quiet_ends, starts_quiet}

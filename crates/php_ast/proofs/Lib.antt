@@ -29,3 +29,5 @@ mod StatementLawProofs
 mod Machines
 mod SignatureBack
 mod FunctionBack
+mod MemberBack
+mod ScriptBack

@@ -1,6 +1,8 @@
 // Laws of the grammar. Each is the contract of a function that does nothing: it says what holds of the
 // definitions in specs/, for every tree and every list of symbols.
 
+ghost use Rattle.php_ast.specs.DeclarationLaws.{OneScript, ReadsMembersBack};
+ghost use Rattle.php_ast.specs.DeclarationLaws.{ReadsScriptsBack, ReadsSignaturesBack};
 ghost use Rattle.php_ast.specs.Laws.{ReadingBegins, ReadsBack, OneForm, OneTree};
 ghost use Rattle.php_ast.specs.Laws.{NestingAgrees, SizesAgree, StopsExactly, Unfinished};
 ghost use Rattle.php_ast.specs.Rules.{RulesAgree};
@@ -65,4 +67,24 @@ pub fn reads_statements_back()
 /// A list of symbols spells at most one statement.
 pub fn one_statement()
     ensures { OneStatement }
+{}
+
+/// The spelling of a proper signature is read back to that signature.
+pub fn reads_signatures_back()
+    ensures { ReadsSignaturesBack }
+{}
+
+/// The spelling of a proper member is read back to that member.
+pub fn reads_members_back()
+    ensures { ReadsMembersBack }
+{}
+
+/// The spelling of a proper script is read back to that script.
+pub fn reads_scripts_back()
+    ensures { ReadsScriptsBack }
+{}
+
+/// A list of symbols spells at most one script.
+pub fn one_script()
+    ensures { OneScript }
 {}
