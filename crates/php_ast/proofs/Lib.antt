@@ -31,3 +31,6 @@ mod SignatureBack
 mod FunctionBack
 mod MemberBack
 mod ScriptBack
+mod StatementSizes
+mod DeclarationSizes
+mod StatementNotes

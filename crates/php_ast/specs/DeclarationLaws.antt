@@ -1,11 +1,12 @@
 -- What holds of the reading of signatures, members and scripts, for every list of symbols and every tree.
-use Rattle.std.specs.Prelude.{◌≡◌, false, Option, Some, None, List, [], ◌∷◌}
+use Rattle.std.specs.Prelude.{◌≡◌, ◌+◌, length, false, Option, Some, None, List, [], ◌∷◌}
 use Rattle.php_ast.specs.Symbol.{Symbol}
 use Rattle.php_ast.specs.Sign.{is_colon}
 use Rattle.php_ast.specs.Machine.{Nothing}
 use Rattle.php_ast.specs.Declarations.{Type_of, Signature, Member, Script}
 use Rattle.php_ast.specs.DeclarationSpelling.{spell_signature, spell_member, spell_script}
 use Rattle.php_ast.specs.ProperDeclaration.{IsProperSignature, IsProperMember, IsProperScript}
+use Rattle.php_ast.specs.DeclarationPlaced.{size_signature, size_script}
 use Rattle.php_ast.specs.SignatureMachine.{read_signature}
 use Rattle.php_ast.specs.MemberMachine.{read_member}
 use Rattle.php_ast.specs.ScriptMachine.{read_script}
@@ -40,3 +41,12 @@ SpellsScript items w = IsProperScript items × (spell_script items ≡ w)
 
 abbrev pub OneScript : Type 0
 OneScript = (a b : Script Nothing) (w : List Symbol) → SpellsScript a w → SpellsScript b w → a ≡ b
+
+-- ---- sizes
+
+-- Signatures and scripts have as many tokens as the places of their notes say.
+abbrev pub SignatureSizesAgree : Type 0
+SignatureSizesAgree = (s : Signature Nothing) (w : List Symbol) → length (spell_signature s w) ≡ size_signature s + length w
+
+abbrev pub ScriptSizesAgree : Type 0
+ScriptSizesAgree = (items : Script Nothing) → length (spell_script items) ≡ size_script items

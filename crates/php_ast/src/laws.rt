@@ -3,10 +3,12 @@
 
 ghost use Rattle.php_ast.specs.DeclarationLaws.{OneScript, ReadsMembersBack};
 ghost use Rattle.php_ast.specs.DeclarationLaws.{ReadsScriptsBack, ReadsSignaturesBack};
+ghost use Rattle.php_ast.specs.DeclarationLaws.{ScriptSizesAgree, SignatureSizesAgree};
 ghost use Rattle.php_ast.specs.Laws.{ReadingBegins, ReadsBack, OneForm, OneTree};
 ghost use Rattle.php_ast.specs.Laws.{NestingAgrees, SizesAgree, StopsExactly, Unfinished};
 ghost use Rattle.php_ast.specs.Rules.{RulesAgree};
 ghost use Rattle.php_ast.specs.StatementLaws.{OneStatement, ReadsStatementsBack};
+ghost use Rattle.php_ast.specs.StatementLaws.{StatementSizesAgree};
 ghost use Rattle.php_ast.specs.TooDeep.{WalksAgree};
 
 /// What a reading has read begins the spelling of a proper tree.
@@ -87,4 +89,19 @@ pub fn reads_scripts_back()
 /// A list of symbols spells at most one script.
 pub fn one_script()
     ensures { OneScript }
+{}
+
+/// A statement has as many tokens as the places of its notes say.
+pub fn statement_sizes_agree()
+    ensures { StatementSizesAgree }
+{}
+
+/// A signature has as many tokens as the places of its notes say.
+pub fn signature_sizes_agree()
+    ensures { SignatureSizesAgree }
+{}
+
+/// A script has as many tokens as the places of its notes say.
+pub fn script_sizes_agree()
+    ensures { ScriptSizesAgree }
 {}
