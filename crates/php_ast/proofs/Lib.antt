@@ -26,3 +26,11 @@ mod StatementStarts
 mod StatementParts
 mod StatementBack
 mod StatementLawProofs
+mod Machines
+mod SignatureBack
+mod FunctionBack
+mod MemberBack
+mod ScriptBack
+mod StatementSizes
+mod DeclarationSizes
+mod StatementNotes

@@ -13,7 +13,7 @@ comma_noted f at (and items lead e) = refl
 comma_noted f at (skip items) = refl
 
 mutual
-  size_noted : {S T : Type 0} (f : Notes T) (at : ℕ) (e : Tree S) → size (noted f at e) ≡ size e
+  pub size_noted : {S T : Type 0} (f : Notes T) (at : ℕ) (e : Tree S) → size (noted f at e) ≡ size e
   size_noted f at (leaf spot l) = refl
   size_noted f at (template spot pieces) = omega (arith, pieces_noted f (at + 1) pieces)
   size_noted f at (enclosed spot enclosure e) = omega (arith, size_noted f (at + opening_size enclosure) e)
@@ -41,7 +41,7 @@ mutual
   size_noted f at (yield_value spot v) = omega (arith, size_noted f (at + 1) v)
   size_noted f at (yield_pair spot k v) = omega (arith, size_noted f (at + 1) k, size_noted f (at + 1 + size k + 1) v)
 
-  items_noted : {S T : Type 0} (f : Notes T) (at : ℕ) (items : Items S) → size_items (noted_items f at items) ≡ size_items items
+  pub items_noted : {S T : Type 0} (f : Notes T) (at : ℕ) (items : Items S) → size_items (noted_items f at items) ≡ size_items items
   items_noted f at none = refl
   items_noted f at (and items lead e) =
       omega (
@@ -77,7 +77,7 @@ mutual
 
 -- ---- notes over notes
 
-member_again : {S T U : Type 0} (f : Notes T) (g : Notes U) (i at : ℕ) (m : Member S) → noted_member g at (noted_member f i m) ≡ noted_member g at m
+pub member_again : {S T U : Type 0} (f : Notes T) (g : Notes U) (i at : ℕ) (m : Member S) → noted_member g at (noted_member f i m) ≡ noted_member g at m
 member_again f g i at (named spot text) = refl
 member_again f g i at (reserved spot k) = refl
 member_again f g i at (held spot text) = refl
@@ -151,7 +151,7 @@ mutual
       ∙ ap (λ x. yield_pair (g.token at) x (noted g (at + 1 + size k + 1) (noted f (i + 1 + size k + 1) v))) (again f g (i + 1) (at + 1) k)
       ∙ ap (yield_pair (g.token at) (noted g (at + 1) k)) (again f g (i + 1 + size k + 1) (at + 1 + size k + 1) v)
 
-  items_again : {S T U : Type 0} (f : Notes T) (g : Notes U) (i at : ℕ) (items : Items S) → noted_items g at (noted_items f i items) ≡ noted_items g at items
+  pub items_again : {S T U : Type 0} (f : Notes T) (g : Notes U) (i at : ℕ) (items : Items S) → noted_items g at (noted_items f i items) ≡ noted_items g at items
   items_again f g i at none = refl
   items_again f g i at (and items lead e) =
       ap (λ n. and (noted_items g at (noted_items f i items)) (noted_lead g (at + n + comma_size (noted_items f i items)) (noted_lead f (i + size_items items + comma_size items) lead))

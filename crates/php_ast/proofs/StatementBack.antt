@@ -30,7 +30,7 @@ pub record Quiet (w : List Symbol) : Type 0 where
   pub strength : body_strength (head_behind w) ≡ 0
   pub catching : is_catching (head_behind w) ≡ false
 
-quiet_ends : (a : Statement Nothing) (w : List Symbol) → Quiet w → StatementEnds a w
+pub quiet_ends : (a : Statement Nothing) (w : List Symbol) → Quiet w → StatementEnds a w
 quiet_ends a w h = record { no_else = λ b. h.strength; no_catch = λ b. h.catching }
 
 quiet_behind : (x : Behind) → ender x ≡ false → (body_strength x ≡ 0) × (is_catching x ≡ false)
@@ -39,7 +39,7 @@ quiet_behind by_while h = (refl, refl)
 quiet_behind _ h = cc
 
 -- a statement goes on with none before it
-starts_quiet : (w : List Symbol) → StartsStatement w → Quiet w
+pub starts_quiet : (w : List Symbol) → StartsStatement w → Quiet w
 starts_quiet [] h = absurd h
 starts_quiet (t ∷ w) h =
     let q : (body_strength (behind t) ≡ 0) × (is_catching (behind t) ≡ false) = quiet_behind (behind t) (starts_no_ender t h) in

@@ -25,12 +25,9 @@ use Rattle.php_ast.specs.StatementForms.{while_loop, for_loop, foreach_loop, Sta
 use Rattle.php_ast.specs.StatementMachine.{begun, begin, list_end, list_step, released_bodies, reached_step}
 use Rattle.php_ast.specs.StatementReading.{StatementReading, halt_statement, read_statement_from}
 use Rattle.php_ast.proofs.Trees.{begins_some, Starts, starts}
+use Rattle.php_ast.proofs.Machines.{IsSome, some_either, some_in}
 
 -- ---- answers
-
-abbrev pub IsSome : {A : Type 0} → Option A → Type 0
-IsSome None = ⊥
-IsSome (Some x) = Unit {0}
 
 pub or_some : {M A : Type 0} (o : Option M) (f : M → ReadingOf A) (a b : ReadingOf A) → IsSome o → or_halted o f a ≡ or_halted o f b
 or_some None f a b h = absurd h
@@ -55,15 +52,10 @@ started_goes (lists isset) h = tt
 started_goes (prefixes op) h = tt
 started_goes begins_nothing h = cc
 
-some_entered : {M A : Type 0} (o : Option State) (on : State → M) (other : Option M) (f : M → ReadingOf A) (a b : ReadingOf A) → IsSome o
-    → or_halted (if_some o (λ m. Some (on m))) f a ≡ or_halted (either (if_some o (λ m. Some (on m))) other) f b
-some_entered None on other f a b h = absurd h
-some_entered (Some m) on other f a b h = refl
-
 -- an expression that begins with its first symbol is one that was due before it
 pub entered_on : {M A : Type 0} (t : Symbol) (on : State → M) (other : Option M) (f : M → ReadingOf A) (a b : ReadingOf A) → begins_some (beginning t) ≡ true
     → or_halted (if_some (advance (expects []) t) (λ m. Some (on m))) f a ≡ or_halted (either (if_some (advance (expects []) t) (λ m. Some (on m))) other) f b
-entered_on t on other f a b h = some_entered (advance (expects []) t) on other f a b (started_goes (beginning t) h)
+entered_on t on other f a b h = some_either (advance (expects []) t) on other f a b (started_goes (beginning t) h)
 
 keyword_no_ending : (k : Keyword) → begins_some (beginning (keyword k)) ≡ true → ending (keyword k) ≡ no_ending
 keyword_no_ending word.As h = cc
@@ -207,10 +199,6 @@ no_end list ss o _ h = cc
 
 begun_goes : (x : StatementBeginning) (o : Around) (t : Symbol) → starts_by x t ≡ true → IsSome (begun x o t)
 begun_goes at_expression o t h = some_in (λ n. in_expression as_line n o) (advance (expects []) t) (started_goes (beginning t) h)
-  where
-    some_in : {M : Type 0} (on : State → M) (m : Option State) → IsSome m → IsSome (if_some m (λ n. Some (on n)))
-    some_in on None h = absurd h
-    some_in on (Some n) h = tt
 begun_goes _ o t h = tt
 
 pub begin_goes : (o : Around) (t : Symbol) → starts_statement t ≡ true → IsSome (begin o t)

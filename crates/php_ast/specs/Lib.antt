@@ -36,4 +36,5 @@ pub mod FunctionMachine
 pub mod MemberMachine
 pub mod ScriptMachine
 pub mod DeclarationDepth
+pub mod DeclarationLaws
 pub mod StatementView

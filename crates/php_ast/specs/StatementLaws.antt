@@ -1,11 +1,12 @@
 -- What holds of the reading of statements, for every list of symbols and every tree.
-use Rattle.std.specs.Prelude.{◌≡◌, Bool, true, false, List, [], ◌∷◌}
+use Rattle.std.specs.Prelude.{◌≡◌, ◌+◌, length, Bool, true, false, List, [], ◌∷◌}
 use Rattle.php_ast.specs.Symbol.{Symbol}
 use Rattle.php_ast.specs.Machine.{Nothing}
 use Rattle.php_ast.specs.Statements.{Statement, if_only, if_else, while, for, foreach, try_catch, ElseIfs, no_elseif, and_elseif, Body, single, list_behind_colon}
 use Rattle.php_ast.specs.StatementSpelling.{spell_statement}
 use Rattle.php_ast.specs.ProperStatement.{takes_else, IsProper}
 use Rattle.php_ast.specs.StatementSign.{Behind, by_other, by_catch, by_finally, behind, body_strength}
+use Rattle.php_ast.specs.StatementPlaced.{size_statement}
 use Rattle.php_ast.specs.StatementReading.{read_statement}
 
 -- ---- what may follow a statement
@@ -58,3 +59,9 @@ SpellsStatement a w = IsProper a × (spell_statement a [] ≡ w)
 
 abbrev pub OneStatement : Type 0
 OneStatement = (a b : Statement Nothing) (w : List Symbol) → SpellsStatement a w → SpellsStatement b w → a ≡ b
+
+-- ---- sizes
+
+-- A statement has as many tokens as the places of its notes say.
+abbrev pub StatementSizesAgree : Type 0
+StatementSizesAgree = (a : Statement Nothing) (w : List Symbol) → length (spell_statement a w) ≡ size_statement a + length w

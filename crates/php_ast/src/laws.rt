@@ -1,10 +1,14 @@
 // Laws of the grammar. Each is the contract of a function that does nothing: it says what holds of the
 // definitions in specs/, for every tree and every list of symbols.
 
+ghost use Rattle.php_ast.specs.DeclarationLaws.{OneScript, ReadsMembersBack};
+ghost use Rattle.php_ast.specs.DeclarationLaws.{ReadsScriptsBack, ReadsSignaturesBack};
+ghost use Rattle.php_ast.specs.DeclarationLaws.{ScriptSizesAgree, SignatureSizesAgree};
 ghost use Rattle.php_ast.specs.Laws.{ReadingBegins, ReadsBack, OneForm, OneTree};
 ghost use Rattle.php_ast.specs.Laws.{NestingAgrees, SizesAgree, StopsExactly, Unfinished};
 ghost use Rattle.php_ast.specs.Rules.{RulesAgree};
 ghost use Rattle.php_ast.specs.StatementLaws.{OneStatement, ReadsStatementsBack};
+ghost use Rattle.php_ast.specs.StatementLaws.{StatementSizesAgree};
 ghost use Rattle.php_ast.specs.TooDeep.{WalksAgree};
 
 /// What a reading has read begins the spelling of a proper tree.
@@ -65,4 +69,39 @@ pub fn reads_statements_back()
 /// A list of symbols spells at most one statement.
 pub fn one_statement()
     ensures { OneStatement }
+{}
+
+/// The spelling of a proper signature is read back to that signature.
+pub fn reads_signatures_back()
+    ensures { ReadsSignaturesBack }
+{}
+
+/// The spelling of a proper member is read back to that member.
+pub fn reads_members_back()
+    ensures { ReadsMembersBack }
+{}
+
+/// The spelling of a proper script is read back to that script.
+pub fn reads_scripts_back()
+    ensures { ReadsScriptsBack }
+{}
+
+/// A list of symbols spells at most one script.
+pub fn one_script()
+    ensures { OneScript }
+{}
+
+/// A statement has as many tokens as the places of its notes say.
+pub fn statement_sizes_agree()
+    ensures { StatementSizesAgree }
+{}
+
+/// A signature has as many tokens as the places of its notes say.
+pub fn signature_sizes_agree()
+    ensures { SignatureSizesAgree }
+{}
+
+/// A script has as many tokens as the places of its notes say.
+pub fn script_sizes_agree()
+    ensures { ScriptSizesAgree }
 {}

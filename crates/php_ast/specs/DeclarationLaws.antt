@@ -1,0 +1,52 @@
+-- What holds of the reading of signatures, members and scripts, for every list of symbols and every tree.
+use Rattle.std.specs.Prelude.{◌≡◌, ◌+◌, length, false, Option, Some, None, List, [], ◌∷◌}
+use Rattle.php_ast.specs.Symbol.{Symbol}
+use Rattle.php_ast.specs.Sign.{is_colon}
+use Rattle.php_ast.specs.Machine.{Nothing}
+use Rattle.php_ast.specs.Declarations.{Type_of, Signature, Member, Script}
+use Rattle.php_ast.specs.DeclarationSpelling.{spell_signature, spell_member, spell_script}
+use Rattle.php_ast.specs.ProperDeclaration.{IsProperSignature, IsProperMember, IsProperScript}
+use Rattle.php_ast.specs.DeclarationPlaced.{size_signature, size_script}
+use Rattle.php_ast.specs.SignatureMachine.{read_signature}
+use Rattle.php_ast.specs.MemberMachine.{read_member}
+use Rattle.php_ast.specs.ScriptMachine.{read_script}
+
+-- ---- what may follow a signature
+
+-- A signature without a result's type would take a `:` that stands behind it.
+abbrev pub ResultEnds : {S : Type 0} → Option (Type_of S) → List Symbol → Type 0
+ResultEnds (Some t) w = Unit {0}
+ResultEnds None [] = Unit {0}
+ResultEnds None (t ∷ w) = is_colon t ≡ false
+
+abbrev pub SignatureEnds : {S : Type 0} → Signature S → List Symbol → Type 0
+SignatureEnds s w = ResultEnds s.result w
+
+-- ---- the spelling of a proper tree is read back
+
+abbrev pub ReadsSignaturesBack : Type 0
+ReadsSignaturesBack =
+    (s : Signature Nothing) (v : List Symbol) → IsProperSignature s → SignatureEnds s v → read_signature (spell_signature s v) ≡ record { tree = s; missing = []; unread = v }
+
+abbrev pub ReadsMembersBack : Type 0
+ReadsMembersBack = (m : Member Nothing) (v : List Symbol) → IsProperMember m → read_member (spell_member m v) ≡ record { tree = m; missing = []; unread = v }
+
+abbrev pub ReadsScriptsBack : Type 0
+ReadsScriptsBack = (items : Script Nothing) → IsProperScript items → read_script (spell_script items) ≡ record { tree = items; missing = []; unread = [] }
+
+-- ---- symbols spell at most one script
+
+abbrev pub SpellsScript : Script Nothing → List Symbol → Type 0
+SpellsScript items w = IsProperScript items × (spell_script items ≡ w)
+
+abbrev pub OneScript : Type 0
+OneScript = (a b : Script Nothing) (w : List Symbol) → SpellsScript a w → SpellsScript b w → a ≡ b
+
+-- ---- sizes
+
+-- Signatures and scripts have as many tokens as the places of their notes say.
+abbrev pub SignatureSizesAgree : Type 0
+SignatureSizesAgree = (s : Signature Nothing) (w : List Symbol) → length (spell_signature s w) ≡ size_signature s + length w
+
+abbrev pub ScriptSizesAgree : Type 0
+ScriptSizesAgree = (items : Script Nothing) → length (spell_script items) ≡ size_script items
