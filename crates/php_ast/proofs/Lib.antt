@@ -15,3 +15,6 @@ mod StatementExamples
 mod TraceSteps
 mod TraceBack
 mod Sizes
+mod PrintWeights
+mod PrintLists
+mod PrintViews

@@ -22,3 +22,6 @@ pub mod Declarations
 pub mod DeclarationSpelling
 pub mod ProperDeclaration
 pub mod StatementView
+pub mod Print
+pub mod PrintParts
+pub mod PrintElements
