@@ -34,3 +34,6 @@ mod ScriptBack
 mod StatementSizes
 mod DeclarationSizes
 mod StatementNotes
+mod PrintWeights
+mod PrintLists
+mod PrintViews
