@@ -34,3 +34,4 @@ mod ScriptBack
 mod StatementSizes
 mod DeclarationSizes
 mod StatementNotes
+mod DeclarationNotes

@@ -1,7 +1,7 @@
 -- The notes of a statement depend on its form and its place alone.
-use Rattle.std.proofs.Common.{◌≡◌, ℕ, ◌+◌, Option, Some, None, refl, ◌∙◌, ap, arith}
+use Rattle.std.proofs.Common.{◌≡◌, ℕ, ◌+◌, Option, Some, None, refl, ap}
 use Rattle.php_ast.specs.Tree.{Tree}
-use Rattle.php_ast.specs.Placed.{Notes, size, size_items, noted, noted_items}
+use Rattle.php_ast.specs.Placed.{Notes, size, size_items}
 use Rattle.php_ast.specs.Statements.{Sequence, empty, then_also, Name, Variable, Constant, Target, Statement, block, blank, inline, expression, echo, globals, statics, unset, constants, jump, throw, if_only, if_else, if_lists, if_else_lists, while, do_while, for, foreach, switch, try_catch, try_finally, declares, Statements, no_statement, and_statement, ElseIfs, no_elseif, and_elseif, ElseIfLists, no_elseif_list, and_elseif_list, Body, single, list_behind_colon, Cases, no_case, and_case, Catches, no_catch, and_catch}
 use Rattle.php_ast.specs.StatementPlaced.{size_separator, size_separated, noted_separated, size_name, noted_name, size_optional, noted_optional, size_value, size_variable, noted_variable, size_constant, noted_constant, size_target, noted_target, size_sign, size_key, noted_key, size_head, size_statement, size_statements, size_elseifs, size_elseif_lists, size_body, size_cases, size_catches, noted_statement, noted_statements, noted_elseifs, noted_elseif_lists, noted_body, noted_cases, noted_catches}
 use Rattle.php_ast.proofs.Notes.{size_noted, items_noted, again, items_again}
@@ -89,43 +89,43 @@ mutual
   statement_noted f at (throw note e) = cc (size_noted f (at + 1) e)
   statement_noted f at (if_only note test body parts) = cc (size_noted f (at + 2) test, statement_noted f (at + size_head test) body, elseifs_noted f (at + size_head test + size_statement body) parts)
   statement_noted f at (if_else note test body parts last) = cc (
-        size_noted f (at + 2) test,
-        statement_noted f (at + size_head test) body,
-        elseifs_noted f (at + size_head test + size_statement body) parts,
-        statement_noted f (at + size_head test + size_statement body + size_elseifs parts + 1) last,
-      )
+    size_noted f (at + 2) test,
+    statement_noted f (at + size_head test) body,
+    elseifs_noted f (at + size_head test + size_statement body) parts,
+    statement_noted f (at + size_head test + size_statement body + size_elseifs parts + 1) last,
+  )
   statement_noted f at (if_lists note test body parts) = cc (
-        size_noted f (at + 2) test,
-        statements_noted f (at + size_head test + 1) body,
-        elseif_lists_noted f (at + size_head test + 1 + size_statements body) parts,
-      )
+    size_noted f (at + 2) test,
+    statements_noted f (at + size_head test + 1) body,
+    elseif_lists_noted f (at + size_head test + 1 + size_statements body) parts,
+  )
   statement_noted f at (if_else_lists note test body parts last) = cc (
-        size_noted f (at + 2) test,
-        statements_noted f (at + size_head test + 1) body,
-        elseif_lists_noted f (at + size_head test + 1 + size_statements body) parts,
-        statements_noted f (at + size_head test + 1 + size_statements body + size_elseif_lists parts + 2) last,
-      )
+    size_noted f (at + 2) test,
+    statements_noted f (at + size_head test + 1) body,
+    elseif_lists_noted f (at + size_head test + 1 + size_statements body) parts,
+    statements_noted f (at + size_head test + 1 + size_statements body + size_elseif_lists parts + 2) last,
+  )
   statement_noted f at (while note test body) = cc (size_noted f (at + 2) test, body_noted f (at + size_head test) body)
   statement_noted f at (do_while note body test) = cc (statement_noted f (at + 1) body, size_noted f (at + 1 + size_statement body + 2) test)
   statement_noted f at (for note firsts tests steps body) = cc (
-        items_noted f (at + 2) firsts,
-        items_noted f (at + 2 + size_items firsts + 1) tests,
-        items_noted f (at + 2 + size_items firsts + 1 + size_items tests + 1) steps,
-        body_noted f (at + 2 + size_items firsts + 1 + size_items tests + 1 + size_items steps + 1) body,
-      )
+    items_noted f (at + 2) firsts,
+    items_noted f (at + 2 + size_items firsts + 1) tests,
+    items_noted f (at + 2 + size_items firsts + 1 + size_items tests + 1) steps,
+    body_noted f (at + 2 + size_items firsts + 1 + size_items tests + 1 + size_items steps + 1) body,
+  )
   statement_noted f at (foreach note walked key value body) = cc (
-        size_noted f (at + 2) walked,
-        key_noted f (at + 2 + size walked + 1) key,
-        target_noted f (at + 2 + size walked + 1 + size_key key) value,
-        body_noted f (at + 2 + size walked + 1 + size_key key + size_target value + 1) body,
-      )
+    size_noted f (at + 2) walked,
+    key_noted f (at + 2 + size walked + 1) key,
+    target_noted f (at + 2 + size walked + 1 + size_key key) value,
+    body_noted f (at + 2 + size walked + 1 + size_key key + size_target value + 1) body,
+  )
   statement_noted f at (switch note e form cases) = cc (size_noted f (at + 2) e, cases_noted f (at + size_head e + 1) cases)
   statement_noted f at (try_catch note body catches) = cc (statements_noted f (at + 2) body, catches_noted f (at + 3 + size_statements body) catches)
   statement_noted f at (try_finally note body catches last) = cc (
-        statements_noted f (at + 2) body,
-        catches_noted f (at + 3 + size_statements body) catches,
-        statements_noted f (at + 3 + size_statements body + size_catches catches + 2) last,
-      )
+    statements_noted f (at + 2) body,
+    catches_noted f (at + 3 + size_statements body) catches,
+    statements_noted f (at + 3 + size_statements body + size_catches catches + 2) last,
+  )
   statement_noted f at (declares note n value) = refl
 
   pub statements_noted : {S T : Type 0} (f : Notes T) (at : ℕ) (x : Statements S) → size_statements (noted_statements f at x) ≡ size_statements x
@@ -139,10 +139,10 @@ mutual
   elseif_lists_noted : {S T : Type 0} (f : Notes T) (at : ℕ) (x : ElseIfLists S) → size_elseif_lists (noted_elseif_lists f at x) ≡ size_elseif_lists x
   elseif_lists_noted f at no_elseif_list = refl
   elseif_lists_noted f at (and_elseif_list parts test body) = cc (
-        elseif_lists_noted f at parts,
-        size_noted f (at + size_elseif_lists parts + 2) test,
-        statements_noted f (at + size_elseif_lists parts + size_head test + 1) body,
-      )
+    elseif_lists_noted f at parts,
+    size_noted f (at + size_elseif_lists parts + 2) test,
+    statements_noted f (at + size_elseif_lists parts + size_head test + 1) body,
+  )
 
   body_noted : {S T : Type 0} (f : Notes T) (at : ℕ) (x : Body S) → size_body (noted_body f at x) ≡ size_body x
   body_noted f at (single s) = cc (statement_noted f at s)
@@ -151,18 +151,18 @@ mutual
   cases_noted : {S T : Type 0} (f : Notes T) (at : ℕ) (x : Cases S) → size_cases (noted_cases f at x) ≡ size_cases x
   cases_noted f at no_case = refl
   cases_noted f at (and_case cases note label end ss) = cc (
-        cases_noted f at cases,
-        optional_noted f (at + size_cases cases + 1) label,
-        statements_noted f (at + size_cases cases + 1 + size_optional label + 1) ss,
-      )
+    cases_noted f at cases,
+    optional_noted f (at + size_cases cases + 1) label,
+    statements_noted f (at + size_cases cases + 1 + size_optional label + 1) ss,
+  )
 
   catches_noted : {S T : Type 0} (f : Notes T) (at : ℕ) (x : Catches S) → size_catches (noted_catches f at x) ≡ size_catches x
   catches_noted f at no_catch = refl
   catches_noted f at (and_catch catches classes n ss) = cc (
-        catches_noted f at catches,
-        separated_noted size_name size_name (noted_name f) (λ at n. refl) (at + size_catches catches + 2) classes,
-        statements_noted f (at + size_catches catches + 2 + size_separated size_name classes + 3) ss,
-      )
+    catches_noted f at catches,
+    separated_noted size_name size_name (noted_name f) (λ at n. refl) (at + size_catches catches + 2) classes,
+    statements_noted f (at + size_catches catches + 2 + size_separated size_name classes + 3) ss,
+  )
 
 -- ---- notes over notes
 
@@ -180,74 +180,74 @@ mutual
   statement_again f g i at (jump note kind value) = cc (optional_again f g (i + 1) (at + 1) value)
   statement_again f g i at (throw note e) = cc (again f g (i + 1) (at + 1) e)
   statement_again f g i at (if_only note test body parts) = cc (
-        size_noted f (i + 2) test,
-        again f g (i + 2) (at + 2) test,
-        statement_noted f (i + size_head test) body,
-        statement_again f g (i + size_head test) (at + size_head test) body,
-        elseifs_again f g (i + size_head test + size_statement body) (at + size_head test + size_statement body) parts,
-      )
+    size_noted f (i + 2) test,
+    again f g (i + 2) (at + 2) test,
+    statement_noted f (i + size_head test) body,
+    statement_again f g (i + size_head test) (at + size_head test) body,
+    elseifs_again f g (i + size_head test + size_statement body) (at + size_head test + size_statement body) parts,
+  )
   statement_again f g i at (if_else note test body parts last) = cc (
-        size_noted f (i + 2) test,
-        again f g (i + 2) (at + 2) test,
-        statement_noted f (i + size_head test) body,
-        statement_again f g (i + size_head test) (at + size_head test) body,
-        elseifs_noted f (i + size_head test + size_statement body) parts,
-        elseifs_again f g (i + size_head test + size_statement body) (at + size_head test + size_statement body) parts,
-        statement_again f g (i + size_head test + size_statement body + size_elseifs parts + 1) (at + size_head test + size_statement body + size_elseifs parts + 1) last,
-      )
+    size_noted f (i + 2) test,
+    again f g (i + 2) (at + 2) test,
+    statement_noted f (i + size_head test) body,
+    statement_again f g (i + size_head test) (at + size_head test) body,
+    elseifs_noted f (i + size_head test + size_statement body) parts,
+    elseifs_again f g (i + size_head test + size_statement body) (at + size_head test + size_statement body) parts,
+    statement_again f g (i + size_head test + size_statement body + size_elseifs parts + 1) (at + size_head test + size_statement body + size_elseifs parts + 1) last,
+  )
   statement_again f g i at (if_lists note test body parts) = cc (
-        size_noted f (i + 2) test,
-        again f g (i + 2) (at + 2) test,
-        statements_noted f (i + size_head test + 1) body,
-        statements_again f g (i + size_head test + 1) (at + size_head test + 1) body,
-        elseif_lists_again f g (i + size_head test + 1 + size_statements body) (at + size_head test + 1 + size_statements body) parts,
-      )
+    size_noted f (i + 2) test,
+    again f g (i + 2) (at + 2) test,
+    statements_noted f (i + size_head test + 1) body,
+    statements_again f g (i + size_head test + 1) (at + size_head test + 1) body,
+    elseif_lists_again f g (i + size_head test + 1 + size_statements body) (at + size_head test + 1 + size_statements body) parts,
+  )
   statement_again f g i at (if_else_lists note test body parts last) = cc (
-        size_noted f (i + 2) test,
-        again f g (i + 2) (at + 2) test,
-        statements_noted f (i + size_head test + 1) body,
-        statements_again f g (i + size_head test + 1) (at + size_head test + 1) body,
-        elseif_lists_noted f (i + size_head test + 1 + size_statements body) parts,
-        elseif_lists_again f g (i + size_head test + 1 + size_statements body) (at + size_head test + 1 + size_statements body) parts,
-        statements_again f g (i + size_head test + 1 + size_statements body + size_elseif_lists parts + 2) (at + size_head test + 1 + size_statements body + size_elseif_lists parts + 2) last,
-      )
+    size_noted f (i + 2) test,
+    again f g (i + 2) (at + 2) test,
+    statements_noted f (i + size_head test + 1) body,
+    statements_again f g (i + size_head test + 1) (at + size_head test + 1) body,
+    elseif_lists_noted f (i + size_head test + 1 + size_statements body) parts,
+    elseif_lists_again f g (i + size_head test + 1 + size_statements body) (at + size_head test + 1 + size_statements body) parts,
+    statements_again f g (i + size_head test + 1 + size_statements body + size_elseif_lists parts + 2) (at + size_head test + 1 + size_statements body + size_elseif_lists parts + 2) last,
+  )
   statement_again f g i at (while note test body) = cc (size_noted f (i + 2) test, again f g (i + 2) (at + 2) test, body_again f g (i + size_head test) (at + size_head test) body)
   statement_again f g i at (do_while note body test) = cc (
-        statement_noted f (i + 1) body,
-        statement_again f g (i + 1) (at + 1) body,
-        again f g (i + 1 + size_statement body + 2) (at + 1 + size_statement body + 2) test,
-      )
+    statement_noted f (i + 1) body,
+    statement_again f g (i + 1) (at + 1) body,
+    again f g (i + 1 + size_statement body + 2) (at + 1 + size_statement body + 2) test,
+  )
   statement_again f g i at (for note firsts tests steps body) = cc (
-        items_noted f (i + 2) firsts,
-        items_again f g (i + 2) (at + 2) firsts,
-        items_noted f (i + 2 + size_items firsts + 1) tests,
-        items_again f g (i + 2 + size_items firsts + 1) (at + 2 + size_items firsts + 1) tests,
-        items_noted f (i + 2 + size_items firsts + 1 + size_items tests + 1) steps,
-        items_again f g (i + 2 + size_items firsts + 1 + size_items tests + 1) (at + 2 + size_items firsts + 1 + size_items tests + 1) steps,
-        body_again f g (i + 2 + size_items firsts + 1 + size_items tests + 1 + size_items steps + 1) (at + 2 + size_items firsts + 1 + size_items tests + 1 + size_items steps + 1) body,
-      )
+    items_noted f (i + 2) firsts,
+    items_again f g (i + 2) (at + 2) firsts,
+    items_noted f (i + 2 + size_items firsts + 1) tests,
+    items_again f g (i + 2 + size_items firsts + 1) (at + 2 + size_items firsts + 1) tests,
+    items_noted f (i + 2 + size_items firsts + 1 + size_items tests + 1) steps,
+    items_again f g (i + 2 + size_items firsts + 1 + size_items tests + 1) (at + 2 + size_items firsts + 1 + size_items tests + 1) steps,
+    body_again f g (i + 2 + size_items firsts + 1 + size_items tests + 1 + size_items steps + 1) (at + 2 + size_items firsts + 1 + size_items tests + 1 + size_items steps + 1) body,
+  )
   statement_again f g i at (foreach note walked key value body) = cc (
-        size_noted f (i + 2) walked,
-        again f g (i + 2) (at + 2) walked,
-        key_noted f (i + 2 + size walked + 1) key,
-        key_again f g (i + 2 + size walked + 1) (at + 2 + size walked + 1) key,
-        target_noted f (i + 2 + size walked + 1 + size_key key) value,
-        target_again f g (i + 2 + size walked + 1 + size_key key) (at + 2 + size walked + 1 + size_key key) value,
-        body_again f g (i + 2 + size walked + 1 + size_key key + size_target value + 1) (at + 2 + size walked + 1 + size_key key + size_target value + 1) body,
-      )
+    size_noted f (i + 2) walked,
+    again f g (i + 2) (at + 2) walked,
+    key_noted f (i + 2 + size walked + 1) key,
+    key_again f g (i + 2 + size walked + 1) (at + 2 + size walked + 1) key,
+    target_noted f (i + 2 + size walked + 1 + size_key key) value,
+    target_again f g (i + 2 + size walked + 1 + size_key key) (at + 2 + size walked + 1 + size_key key) value,
+    body_again f g (i + 2 + size walked + 1 + size_key key + size_target value + 1) (at + 2 + size walked + 1 + size_key key + size_target value + 1) body,
+  )
   statement_again f g i at (switch note e form cases) = cc (size_noted f (i + 2) e, again f g (i + 2) (at + 2) e, cases_again f g (i + size_head e + 1) (at + size_head e + 1) cases)
   statement_again f g i at (try_catch note body catches) = cc (
-        statements_noted f (i + 2) body,
-        statements_again f g (i + 2) (at + 2) body,
-        catches_again f g (i + 3 + size_statements body) (at + 3 + size_statements body) catches,
-      )
+    statements_noted f (i + 2) body,
+    statements_again f g (i + 2) (at + 2) body,
+    catches_again f g (i + 3 + size_statements body) (at + 3 + size_statements body) catches,
+  )
   statement_again f g i at (try_finally note body catches last) = cc (
-        statements_noted f (i + 2) body,
-        statements_again f g (i + 2) (at + 2) body,
-        catches_noted f (i + 3 + size_statements body) catches,
-        catches_again f g (i + 3 + size_statements body) (at + 3 + size_statements body) catches,
-        statements_again f g (i + 3 + size_statements body + size_catches catches + 2) (at + 3 + size_statements body + size_catches catches + 2) last,
-      )
+    statements_noted f (i + 2) body,
+    statements_again f g (i + 2) (at + 2) body,
+    catches_noted f (i + 3 + size_statements body) catches,
+    catches_again f g (i + 3 + size_statements body) (at + 3 + size_statements body) catches,
+    statements_again f g (i + 3 + size_statements body + size_catches catches + 2) (at + 3 + size_statements body + size_catches catches + 2) last,
+  )
   statement_again f g i at (declares note n value) = refl
 
   pub statements_again : {S T U : Type 0} (f : Notes T) (g : Notes U) (i at : ℕ) (x : Statements S) → noted_statements g at (noted_statements f i x) ≡ noted_statements g at x
@@ -257,22 +257,22 @@ mutual
   elseifs_again : {S T U : Type 0} (f : Notes T) (g : Notes U) (i at : ℕ) (x : ElseIfs S) → noted_elseifs g at (noted_elseifs f i x) ≡ noted_elseifs g at x
   elseifs_again f g i at no_elseif = refl
   elseifs_again f g i at (and_elseif parts test body) = cc (
-        elseifs_noted f i parts,
-        elseifs_again f g i at parts,
-        size_noted f (i + size_elseifs parts + 2) test,
-        again f g (i + size_elseifs parts + 2) (at + size_elseifs parts + 2) test,
-        statement_again f g (i + size_elseifs parts + size_head test) (at + size_elseifs parts + size_head test) body,
-      )
+    elseifs_noted f i parts,
+    elseifs_again f g i at parts,
+    size_noted f (i + size_elseifs parts + 2) test,
+    again f g (i + size_elseifs parts + 2) (at + size_elseifs parts + 2) test,
+    statement_again f g (i + size_elseifs parts + size_head test) (at + size_elseifs parts + size_head test) body,
+  )
 
   elseif_lists_again : {S T U : Type 0} (f : Notes T) (g : Notes U) (i at : ℕ) (x : ElseIfLists S) → noted_elseif_lists g at (noted_elseif_lists f i x) ≡ noted_elseif_lists g at x
   elseif_lists_again f g i at no_elseif_list = refl
   elseif_lists_again f g i at (and_elseif_list parts test body) = cc (
-        elseif_lists_noted f i parts,
-        elseif_lists_again f g i at parts,
-        size_noted f (i + size_elseif_lists parts + 2) test,
-        again f g (i + size_elseif_lists parts + 2) (at + size_elseif_lists parts + 2) test,
-        statements_again f g (i + size_elseif_lists parts + size_head test + 1) (at + size_elseif_lists parts + size_head test + 1) body,
-      )
+    elseif_lists_noted f i parts,
+    elseif_lists_again f g i at parts,
+    size_noted f (i + size_elseif_lists parts + 2) test,
+    again f g (i + size_elseif_lists parts + 2) (at + size_elseif_lists parts + 2) test,
+    statements_again f g (i + size_elseif_lists parts + size_head test + 1) (at + size_elseif_lists parts + size_head test + 1) body,
+  )
 
   body_again : {S T U : Type 0} (f : Notes T) (g : Notes U) (i at : ℕ) (x : Body S) → noted_body g at (noted_body f i x) ≡ noted_body g at x
   body_again f g i at (single s) = cc (statement_again f g i at s)
@@ -281,19 +281,19 @@ mutual
   cases_again : {S T U : Type 0} (f : Notes T) (g : Notes U) (i at : ℕ) (x : Cases S) → noted_cases g at (noted_cases f i x) ≡ noted_cases g at x
   cases_again f g i at no_case = refl
   cases_again f g i at (and_case cases note label end ss) = cc (
-        cases_noted f i cases,
-        cases_again f g i at cases,
-        optional_noted f (i + size_cases cases + 1) label,
-        optional_again f g (i + size_cases cases + 1) (at + size_cases cases + 1) label,
-        statements_again f g (i + size_cases cases + 1 + size_optional label + 1) (at + size_cases cases + 1 + size_optional label + 1) ss,
-      )
+    cases_noted f i cases,
+    cases_again f g i at cases,
+    optional_noted f (i + size_cases cases + 1) label,
+    optional_again f g (i + size_cases cases + 1) (at + size_cases cases + 1) label,
+    statements_again f g (i + size_cases cases + 1 + size_optional label + 1) (at + size_cases cases + 1 + size_optional label + 1) ss,
+  )
 
   catches_again : {S T U : Type 0} (f : Notes T) (g : Notes U) (i at : ℕ) (x : Catches S) → noted_catches g at (noted_catches f i x) ≡ noted_catches g at x
   catches_again f g i at no_catch = refl
   catches_again f g i at (and_catch catches classes n ss) = cc (
-        catches_noted f i catches,
-        catches_again f g i at catches,
-        separated_noted size_name size_name (noted_name f) (λ at n. refl) (i + size_catches catches + 2) classes,
-        separated_again size_name size_name (noted_name f) (noted_name g) (noted_name g) (λ at n. refl) (name_again f g) (i + size_catches catches + 2) (at + size_catches catches + 2) classes,
-        statements_again f g (i + size_catches catches + 2 + size_separated size_name classes + 3) (at + size_catches catches + 2 + size_separated size_name classes + 3) ss,
-      )
+    catches_noted f i catches,
+    catches_again f g i at catches,
+    separated_noted size_name size_name (noted_name f) (λ at n. refl) (i + size_catches catches + 2) classes,
+    separated_again size_name size_name (noted_name f) (noted_name g) (noted_name g) (λ at n. refl) (name_again f g) (i + size_catches catches + 2) (at + size_catches catches + 2) classes,
+    statements_again f g (i + size_catches catches + 2 + size_separated size_name classes + 3) (at + size_catches catches + 2 + size_separated size_name classes + 3) ss,
+  )
