@@ -35,3 +35,4 @@ mod StatementSizes
 mod DeclarationSizes
 mod StatementNotes
 mod DeclarationNotes
+mod NotedLaws
