@@ -36,3 +36,4 @@ mod DeclarationSizes
 mod StatementNotes
 mod DeclarationNotes
 mod NotedLaws
+mod Deepened

@@ -2,9 +2,9 @@
 use Rattle.std.specs.Prelude.{ℕ, ◌+◌, nat_lt, Bool, true, false, List, [], ◌∷◌}
 use Rattle.php_ast.specs.Symbol.{Symbol}
 use Rattle.php_ast.specs.Sign.{is_colon}
-use Rattle.php_ast.specs.Machine.{pick}
+use Rattle.php_ast.specs.Machine.{pick, advance}
 use Rattle.php_ast.specs.Depth.{depth_at}
-use Rattle.php_ast.specs.TooDeep.{depths_taken}
+use Rattle.php_ast.specs.TooDeep.{depth_inside, depths_taken}
 use Rattle.php_ast.specs.StatementSign.{StatementBeginning, at_block, statement_beginning, Behind, by_catch, by_finally, behind, body_strength, ends_outside, Fixed, right_paren}
 use Rattle.php_ast.specs.StatementForms.{of_block, list_open, if_open, loop_open, OpenStatement, Around, Values, of_echo, ExpressionPlace, as_value, as_test, as_walked, as_first, as_second, as_label, Names, of_classes, of_declare, StatementState, due_statement, done, due, in_expression, due_in_list, due_value, due_name, past_name, due_int, past_static_word, past_jump, past_if, past_loop, past_as, past_key, past_switch, due_case, past_default, past_block}
 use Rattle.php_ast.specs.StatementMachine.{body_level, advance_statement}
@@ -119,7 +119,7 @@ abbrev pub statement_depth_at : StatementState → Symbol → ℕ
 statement_depth_at (due_statement o) t = begin_depth o t
 statement_depth_at (done a o) t = depth_past o t
 statement_depth_at (due xs m) t = fixed_depth xs + statement_depth (around m)
-statement_depth_at (in_expression place m o) t = depth_at m t + place_depth place + statement_depth o
+statement_depth_at (in_expression place m o) t = depth_inside (advance m t) (depth_at m t) (place_depth place + statement_depth o)
 statement_depth_at (due_in_list list ss o) t = list_depth (list_open list ss) o t
 statement_depth_at (due_value values o) t = values_depth values + statement_depth o
 statement_depth_at (due_name names o) t = names_depth names + statement_depth o
