@@ -37,3 +37,5 @@ mod StatementNotes
 mod DeclarationNotes
 mod NotedLaws
 mod Deepened
+mod Shifts
+mod StatementShifts
