@@ -39,3 +39,4 @@ mod NotedLaws
 mod Deepened
 mod Shifts
 mod StatementShifts
+mod StatementTrace
