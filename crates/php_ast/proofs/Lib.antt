@@ -40,3 +40,4 @@ mod Deepened
 mod Shifts
 mod StatementShifts
 mod StatementTrace
+mod StatementTraceBack

@@ -134,7 +134,7 @@ in_list list ss o t w h =
     ∙ ap (λ b. taken (begin (list_open list ss ∷ o) t) (pick b (statement_depth o) (begin_depth (list_open list ss ∷ o) t)) (λ n. trace n w)) (outside_by (behind t) (starts_no_ender t h))
 
 -- the statements so far make no difference
-deepened_same : (list : StatementList) (ss other : Statements Nothing) (b : Bool) (d : ℕ) → deepened_statement (list_open list ss) b d ≡ deepened_statement (list_open list other) b d
+pub deepened_same : (list : StatementList) (ss other : Statements Nothing) (b : Bool) (d : ℕ) → deepened_statement (list_open list ss) b d ≡ deepened_statement (list_open list other) b d
 deepened_same of_block ss other true d = refl
 deepened_same of_block ss other false d = refl
 deepened_same (of_if test) ss other b d = refl
