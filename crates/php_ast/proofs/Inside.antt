@@ -44,7 +44,7 @@ whole_if : (missing : List Symbol) (tree e : Form) → missing ≡ [] → tree �
 whole_if [] tree e h is = ap Some is
 whole_if (t ∷ w) tree e h is = cc
 
-whole_here : (m : State) (t : Symbol) (v : List Symbol) (e : Form) → halt m (t ∷ v) ≡ record { tree = e; missing = []; unread = t ∷ v } → whole_before m t ≡ Some e
+pub whole_here : (m : State) (t : Symbol) (v : List Symbol) (e : Form) → halt m (t ∷ v) ≡ record { tree = e; missing = []; unread = t ∷ v } → whole_before m t ≡ Some e
 whole_here m t v e h =
     let same : Alike (halt m (t ∷ v)) (halt m (t ∷ [])) = halts_alike m t v in
     whole_if (halt m (t ∷ [])).missing (halt m (t ∷ [])).tree e (sym same.missing ∙ ap (λ r. r.missing) h) (sym same.tree ∙ ap (λ r. r.tree) h)

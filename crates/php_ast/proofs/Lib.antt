@@ -37,3 +37,10 @@ mod StatementNotes
 mod PrintWeights
 mod PrintLists
 mod PrintViews
+mod DeclarationNotes
+mod NotedLaws
+mod Deepened
+mod Shifts
+mod StatementShifts
+mod StatementTrace
+mod StatementTraceBack

@@ -13,9 +13,9 @@ whole_if : {A : Type 0} (missing : List Symbol) (tree a : A) → missing ≡ [] 
 whole_if [] tree a h is = ap Some is
 whole_if (t ∷ w) tree a h is = cc
 
-whole_here : {M A : Type 0} (stop : M → List Symbol → ReadingOf A) (halts : Halts M A stop) (m : M) (w : List Symbol) (a : A) (v : List Symbol) → stop m w ≡ reading a [] v
+pub whole_in : {M A : Type 0} (stop : M → List Symbol → ReadingOf A) (halts : Halts M A stop) (m : M) (w : List Symbol) (a : A) (v : List Symbol) → stop m w ≡ reading a [] v
     → if_whole (stop m []) ≡ Some a
-whole_here stop halts m w a v h =
+whole_in stop halts m w a v h =
     whole_if (stop m []).missing (stop m []).tree a (sym (halts.missing m w) ∙ ap (λ r. r.missing) h) (sym (halts.tree m w) ∙ ap (λ r. r.tree) h)
 
 same_head : (x t : Symbol) (w v : List Symbol) → x ∷ w ≡ t ∷ v → x ≡ t
@@ -41,7 +41,7 @@ through_by inner stop step outer halts r None m x w a t v n is next h =
     let all : x ∷ w ≡ t ∷ v = sym (halts.unread m (x ∷ w)) ∙ ap (λ u. u.unread) h in
     let first : x ≡ t = same_head x t w v all in
     let rest : w ≡ v = same_tail x t w v all in
-    ap (λ u. or_halted (if_some u (r.ended x)) (λ k. run_of step outer k w) (outer (r.on m) (x ∷ w))) (whole_here stop halts m (x ∷ w) a (t ∷ v) h)
+    ap (λ u. or_halted (if_some u (r.ended x)) (λ k. run_of step outer k w) (outer (r.on m) (x ∷ w))) (whole_in stop halts m (x ∷ w) a (t ∷ v) h)
     ∙ ap (λ u. or_halted u (λ k. run_of step outer k w) (outer (r.on m) (x ∷ w))) (ap (λ y. r.ended y a) first ∙ is) ∙ ap (run_of step outer n) rest
 
 -- what the inner machine reads is followed by a symbol that the outer one takes

@@ -46,43 +46,43 @@ starts_quiet (t ∷ w) h =
     record { strength = q.0; catching = q.1 }
 
 -- what may follow the last statement of a list
-abbrev ListEnds : Statements Nothing → List Symbol → Type 0
+abbrev pub ListEnds : Statements Nothing → List Symbol → Type 0
 ListEnds no_statement w = Unit {0}
 ListEnds (and_statement ss a) w = StatementEnds a w
 
-quiet_list : (ss : Statements Nothing) (w : List Symbol) → Quiet w → ListEnds ss w
+pub quiet_list : (ss : Statements Nothing) (w : List Symbol) → Quiet w → ListEnds ss w
 quiet_list no_statement w h = tt
 quiet_list (and_statement ss a) w h = quiet_ends a w h
 
 -- a word of an `if` in front of which no `if` is open
-parted_ends : (a : Statement Nothing) (w : List Symbol) → takes_else a ≡ false → is_catching (head_behind w) ≡ false → StatementEnds a w
+pub parted_ends : (a : Statement Nothing) (w : List Symbol) → takes_else a ≡ false → is_catching (head_behind w) ≡ false → StatementEnds a w
 parted_ends a w shut h = record { no_else = λ b. cc; no_catch = λ b. h }
 
-parted_list : (ss : Statements Nothing) (w : List Symbol) → last_takes ss ≡ false → is_catching (head_behind w) ≡ false → ListEnds ss w
+pub parted_list : (ss : Statements Nothing) (w : List Symbol) → last_takes ss ≡ false → is_catching (head_behind w) ≡ false → ListEnds ss w
 parted_list no_statement w shut h = tt
 parted_list (and_statement ss a) w shut h = parted_ends a w shut h
 
 -- ---- the bodies of an `if`
 
 -- the last body
-abbrev last_of : Statement Nothing → ElseIfs Nothing → Statement Nothing
+abbrev pub last_of : Statement Nothing → ElseIfs Nothing → Statement Nothing
 last_of body no_elseif = body
 last_of body (and_elseif parts test last) = last
 
-last_of_takes : (body : Statement Nothing) (parts : ElseIfs Nothing) → takes_else (last_of body parts) ≡ last_body (takes_else body) parts
+pub last_of_takes : (body : Statement Nothing) (parts : ElseIfs Nothing) → takes_else (last_of body parts) ≡ last_body (takes_else body) parts
 last_of_takes body no_elseif = refl
 last_of_takes body (and_elseif parts test last) = refl
 
-last_of_catch : (body : Statement Nothing) (parts : ElseIfs Nothing) → takes_catch (last_of body parts) ≡ part_takes_catch (takes_catch body) parts
+pub last_of_catch : (body : Statement Nothing) (parts : ElseIfs Nothing) → takes_catch (last_of body parts) ≡ part_takes_catch (takes_catch body) parts
 last_of_catch body no_elseif = refl
 last_of_catch body (and_elseif parts test last) = refl
 
-abbrev if_led : Form → Statement Nothing → ElseIfs Nothing → Around → StatementState
+abbrev pub if_led : Form → Statement Nothing → ElseIfs Nothing → Around → StatementState
 if_led test body no_elseif o = done body (if_open test ∷ o)
 if_led test body (and_elseif parts last a) o = done a (elseif_open test body parts last ∷ o)
 
 -- what follows the first body
-first_ends : (body : Statement Nothing) (parts : ElseIfs Nothing) (w : List Symbol) → NoneTakes (takes_else body) parts → StatementEnds (last_of body parts) w
+pub first_ends : (body : Statement Nothing) (parts : ElseIfs Nothing) (w : List Symbol) → NoneTakes (takes_else body) parts → StatementEnds (last_of body parts) w
     → StatementEnds body (spell_elseifs parts w)
 first_ends body no_elseif w n h = h
 first_ends body (and_elseif parts e a) w n h = first_ends body parts _ n.0 (parted_ends (last_of body parts) _ (last_of_takes body parts ∙ n.1) refl)
@@ -103,7 +103,7 @@ if_done test body no_elseif o w h = if_ended (if_open test) body o w refl h
 if_done test body (and_elseif parts last a) o w h = if_ended (elseif_open test body parts last) a o w refl h
 
 -- the lists of an `if`
-abbrev lists_led : Form → Statements Nothing → ElseIfLists Nothing → Around → StatementState
+abbrev pub lists_led : Form → Statements Nothing → ElseIfLists Nothing → Around → StatementState
 lists_led test body no_elseif_list o = led (of_if test) body o
 lists_led test body (and_elseif_list parts last ss) o = led (of_elseif test body parts last) ss o
 
@@ -123,15 +123,15 @@ lists_done test body no_elseif_list o w = led_ends (of_if test) body o (keyword 
 lists_done test body (and_elseif_list parts last ss) o w = led_ends (of_elseif test body parts last) ss o (keyword word.EndIf) (punct mark.Semicolon ∷ w) _ refl
 
 -- the last list
-abbrev last_list_of : Statements Nothing → ElseIfLists Nothing → Statements Nothing
+abbrev pub last_list_of : Statements Nothing → ElseIfLists Nothing → Statements Nothing
 last_list_of body no_elseif_list = body
 last_list_of body (and_elseif_list parts test last) = last
 
-last_list_takes : (body : Statements Nothing) (parts : ElseIfLists Nothing) → last_takes (last_list_of body parts) ≡ last_list (last_takes body) parts
+pub last_list_takes : (body : Statements Nothing) (parts : ElseIfLists Nothing) → last_takes (last_list_of body parts) ≡ last_list (last_takes body) parts
 last_list_takes body no_elseif_list = refl
 last_list_takes body (and_elseif_list parts test last) = refl
 
-first_list_ends : (body : Statements Nothing) (parts : ElseIfLists Nothing) (w : List Symbol) → NoListTakes (last_takes body) parts → ListEnds (last_list_of body parts) w
+pub first_list_ends : (body : Statements Nothing) (parts : ElseIfLists Nothing) (w : List Symbol) → NoListTakes (last_takes body) parts → ListEnds (last_list_of body parts) w
     → ListEnds body (spell_elseif_lists parts w)
 first_list_ends body no_elseif_list w n h = h
 first_list_ends body (and_elseif_list parts e ss) w n h = first_list_ends body parts _ n.0 (parted_list (last_list_of body parts) _ (last_list_takes body parts ∙ n.1) refl)
@@ -144,24 +144,24 @@ loop_done (while_loop test) body o w = led_ends (of_loop (while_loop test)) body
 loop_done (for_loop a b c) body o w = led_ends (of_loop (for_loop a b c)) body o (keyword word.EndFor) (punct mark.Semicolon ∷ w) _ refl
 loop_done (foreach_loop a b c) body o w = led_ends (of_loop (foreach_loop a b c)) body o (keyword word.EndForeach) (punct mark.Semicolon ∷ w) _ refl
 
-loop_word_quiet : (loop : Loop) (w : List Symbol) → Quiet (keyword (loop_word loop) ∷ w)
+pub loop_word_quiet : (loop : Loop) (w : List Symbol) → Quiet (keyword (loop_word loop) ∷ w)
 loop_word_quiet (while_loop test) w = record { strength = refl; catching = refl }
 loop_word_quiet (for_loop a b c) w = record { strength = refl; catching = refl }
 loop_word_quiet (foreach_loop a b c) w = record { strength = refl; catching = refl }
 
 -- what may follow the body of a loop
-abbrev BodyEnds : Body Nothing → List Symbol → Type 0
+abbrev pub BodyEnds : Body Nothing → List Symbol → Type 0
 BodyEnds (single s) w = StatementEnds s w
 BodyEnds (list_behind_colon body) w = Unit {0}
 
-body_ends_by : (body : Body Nothing) (w : List Symbol) → (body_takes body ≡ true → body_strength (head_behind w) ≡ 0) → (body_takes_catch body ≡ true → is_catching (head_behind w) ≡ false)
+pub body_ends_by : (body : Body Nothing) (w : List Symbol) → (body_takes body ≡ true → body_strength (head_behind w) ≡ 0) → (body_takes_catch body ≡ true → is_catching (head_behind w) ≡ false)
     → BodyEnds body w
 body_ends_by (single s) w h g = record { no_else = h; no_catch = g }
 body_ends_by (list_behind_colon body) w h g = tt
 
 -- ---- cases
 
-abbrev cases_led : Form → SwitchForm → Cases Nothing → Around → StatementState
+abbrev pub cases_led : Form → SwitchForm → Cases Nothing → Around → StatementState
 cases_led e form no_case o = due_case e form no_case o
 cases_led e form (and_case cases note label end body) o = led (of_case e form cases label end) body o
 
@@ -192,11 +192,11 @@ label_read e form cases (Some l) case_end.Colon o w p =
 label_read e form cases (Some l) case_end.Semicolon o w p =
     case_begun e form cases o (spell l (punct mark.Semicolon ∷ w)) ∙ place_read (as_label e form cases) o l (punct mark.Semicolon) w _ p (at_semicolon l w) refl
 
-label_quiet : (label : Option Form) (w : List Symbol) → Quiet (spell_label label w)
+pub label_quiet : (label : Option Form) (w : List Symbol) → Quiet (spell_label label w)
 label_quiet None w = record { strength = refl; catching = refl }
 label_quiet (Some l) w = record { strength = refl; catching = refl }
 
-closing_quiet : (form : SwitchForm) (w : List Symbol) → Quiet (cases_closing form w)
+pub closing_quiet : (form : SwitchForm) (w : List Symbol) → Quiet (cases_closing form w)
 closing_quiet switch_form.Braces w = record { strength = refl; catching = refl }
 closing_quiet switch_form.Colon w = record { strength = refl; catching = refl }
 

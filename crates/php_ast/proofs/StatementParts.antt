@@ -79,17 +79,17 @@ second_entered walked key o (t ∷ w) h =
     ap (λ b. or_halted (pick b (Some (expected (as_second walked key true) o)) (entered (as_second walked key false) o t)) (λ n. run n w) (halt_statement (past_key walked key o) (t ∷ w))) (begins_no_ampersand t h)
     ∙ entered_on t (λ m. in_expression (as_second walked key false) m o) _ (λ n. run n w) _ _ h
 
-abbrev is_static_word : Keyword → Bool
+abbrev pub is_static_word : Keyword → Bool
 is_static_word word.Static = true
 is_static_word _ = false
 
-static_word : (k : Keyword) → is_static_word k ≡ true → k ≡ word.Static
+pub static_word : (k : Keyword) → is_static_word k ≡ true → k ≡ word.Static
 static_word word.Static h = refl
 static_word word.Echo h = cc
 static_word _ h = cc
 
 -- what begins an expression, and no static variables, begins a statement that is an expression
-keyword_line : (k : Keyword) → begins_some (beginning (keyword k)) ≡ true → is_static_word k ≡ false → statement_keyword k ≡ at_expression
+pub keyword_line : (k : Keyword) → begins_some (beginning (keyword k)) ≡ true → is_static_word k ≡ false → statement_keyword k ≡ at_expression
 keyword_line word.Static h other = cc
 keyword_line word.Echo h other = cc
 keyword_line word.Global h other = cc
@@ -109,7 +109,7 @@ keyword_line word.Try h other = cc
 keyword_line word.Declare h other = cc
 keyword_line _ h other = refl
 
-punct_line : (p : Punct) → begins_some (beginning (punct p)) ≡ true → statement_punct p ≡ at_expression
+pub punct_line : (p : Punct) → begins_some (beginning (punct p)) ≡ true → statement_punct p ≡ at_expression
 punct_line mark.LeftBrace h = cc
 punct_line mark.Semicolon h = cc
 punct_line _ h = refl
@@ -179,7 +179,7 @@ values_read values (and items (keyed k) e) o t v n h ends is = absurd h.0
 values_read values (and items (keyed_reference k) e) o t v n h ends is = absurd h.0
 values_read values (skip items) o t v n h ends is = absurd h.0
 
-items_start : (items : Items Nothing) (w : List Symbol) → AreValues items → is_none items ≡ false → Starts (spell_items items w)
+pub items_start : (items : Items Nothing) (w : List Symbol) → AreValues items → is_none items ≡ false → Starts (spell_items items w)
 items_start none w h some = cc
 items_start (and none plain e) w h some = starts e w
 items_start (and (and items plain x) plain e) w h some = items_start (and items plain x) (punct mark.Comma ∷ spell e w) h refl
@@ -307,7 +307,7 @@ body_ended f a o (t ∷ w) h =
     (halt_statement (done a (f ∷ o)) (t ∷ w))) h
     ∙ ap (or_halted (reached_step (released_bodies (body_strength (behind t)) o (completed_statement f a)) t (behind t)) (λ n. run n w)) (halts_ended f a o (t ∷ w) (body_strength (behind t)) h)
 
-strength_small : (x : Behind) → nat_lt (body_strength x) 2 ≡ true
+pub strength_small : (x : Behind) → nat_lt (body_strength x) 2 ≡ true
 strength_small by_else = refl
 strength_small _ = refl
 
@@ -317,7 +317,7 @@ last_ended f a o w h = body_ended f a o w (ap (nat_lt (body_strength (head_behin
 pub if_ended : (f : OpenStatement) (a : Statement Nothing) (o : Around) (w : List Symbol) → body_level f ≡ 1 → body_strength (head_behind w) ≡ 0 → run (done a (f ∷ o)) w ≡ run (done (completed_statement f a) o) w
 if_ended f a o w level h = body_ended f a o w (ap (nat_lt (body_strength (head_behind w))) level ∙ ap (λ n. nat_lt n 1) h)
 
-catches_ended_by : (x : Behind) (body : Statements Nothing) (catches : Catches Nothing) (classes : Sequence (Name Nothing)) (n : Name Nothing) (ss : Statements Nothing) (o : Around) (t : Symbol)
+pub catches_ended_by : (x : Behind) (body : Statements Nothing) (catches : Catches Nothing) (classes : Sequence (Name Nothing)) (n : Name Nothing) (ss : Statements Nothing) (o : Around) (t : Symbol)
     → is_catching x ≡ false → block_step body (and_catch catches classes n ss) o t x ≡ past_statement (try_catch tt body (and_catch catches classes n ss)) o t
 catches_ended_by by_catch body catches classes n ss o t h = cc
 catches_ended_by by_finally body catches classes n ss o t h = cc

@@ -35,7 +35,7 @@ or_some (Some m) f a b h = refl
 
 -- ---- expressions
 
-started_goes : (x : Beginning) → begins_some x ≡ true → IsSome (started x [])
+pub started_goes : (x : Beginning) → begins_some x ≡ true → IsSome (started x [])
 started_goes (is_leaf l) h = tt
 started_goes is_static h = tt
 started_goes is_quote h = tt

@@ -1,12 +1,14 @@
 -- What holds of the reading of signatures, members and scripts, for every list of symbols and every tree.
-use Rattle.std.specs.Prelude.{◌≡◌, ◌+◌, length, false, Option, Some, None, List, [], ◌∷◌}
-use Rattle.php_ast.specs.Symbol.{Symbol}
+use Rattle.std.specs.Prelude.{◌≡◌, ℕ, ◌+◌, length, false, Option, Some, None, List, [], ◌∷◌, map}
+use Rattle.php_lex.specs.Token.{Token}
+use Rattle.php_ast.specs.Symbol.{Symbol, symbol}
+use Rattle.php_ast.specs.View.{Note}
 use Rattle.php_ast.specs.Sign.{is_colon}
 use Rattle.php_ast.specs.Machine.{Nothing}
 use Rattle.php_ast.specs.Declarations.{Type_of, Signature, Member, Script}
 use Rattle.php_ast.specs.DeclarationSpelling.{spell_signature, spell_member, spell_script}
 use Rattle.php_ast.specs.ProperDeclaration.{IsProperSignature, IsProperMember, IsProperScript}
-use Rattle.php_ast.specs.DeclarationPlaced.{size_signature, size_script}
+use Rattle.php_ast.specs.DeclarationPlaced.{size_signature, size_script, signature_form, script_form, IsPlacedSignature, IsPlacedScript}
 use Rattle.php_ast.specs.SignatureMachine.{read_signature}
 use Rattle.php_ast.specs.MemberMachine.{read_member}
 use Rattle.php_ast.specs.ScriptMachine.{read_script}
@@ -34,13 +36,36 @@ ReadsMembersBack = (m : Member Nothing) (v : List Symbol) → IsProperMember m �
 abbrev pub ReadsScriptsBack : Type 0
 ReadsScriptsBack = (items : Script Nothing) → IsProperScript items → read_script (spell_script items) ≡ record { tree = items; missing = []; unread = [] }
 
--- ---- symbols spell at most one script
+-- ---- symbols spell at most one tree
+
+abbrev pub SpellsSignature : Signature Nothing → List Symbol → Type 0
+SpellsSignature s w = IsProperSignature s × (spell_signature s [] ≡ w)
+
+abbrev pub OneSignature : Type 0
+OneSignature = (a b : Signature Nothing) (w : List Symbol) → SpellsSignature a w → SpellsSignature b w → a ≡ b
 
 abbrev pub SpellsScript : Script Nothing → List Symbol → Type 0
 SpellsScript items w = IsProperScript items × (spell_script items ≡ w)
 
 abbrev pub OneScript : Type 0
 OneScript = (a b : Script Nothing) (w : List Symbol) → SpellsScript a w → SpellsScript b w → a ≡ b
+
+-- Tokens spell a tree where its form is spelled and its notes are about them. A signature begins at a place among
+-- all tokens, and a script has all of them.
+pub record IsSpelledSignature (tokens : List Token) (at : ℕ) (s : Signature Note) (w : List Token) : Type 0 where
+  pub spelled : SpellsSignature (signature_form s) (map symbol w)
+  pub placed : IsPlacedSignature tokens at s
+
+abbrev pub OneSignatureTree : Type 0
+OneSignatureTree =
+    (tokens : List Token) (at : ℕ) (w : List Token) (a b : Signature Note) → IsSpelledSignature tokens at a w → IsSpelledSignature tokens at b w → a ≡ b
+
+pub record IsSpelledScript (tokens : List Token) (items : Script Note) : Type 0 where
+  pub spelled : SpellsScript (script_form items) (map symbol tokens)
+  pub placed : IsPlacedScript tokens items
+
+abbrev pub OneScriptTree : Type 0
+OneScriptTree = (tokens : List Token) (a b : Script Note) → IsSpelledScript tokens a → IsSpelledScript tokens b → a ≡ b
 
 -- ---- sizes
 

@@ -252,7 +252,10 @@ size_script items = size_joined size_item items
 abbrev pub noted_script : {S T : Type 0} → Notes T → Script S → Script T
 noted_script f items = noted_joined size_item (noted_item f) 0 items
 
--- the form of a script alone
+-- the form of a signature, and of a script, alone
+abbrev pub signature_form : {S : Type 0} → Signature S → Signature (Unit {0})
+signature_form s = noted_signature no_notes 0 s
+
 abbrev pub script_form : {S : Type 0} → Script S → Script (Unit {0})
 script_form items = noted_script no_notes items
 

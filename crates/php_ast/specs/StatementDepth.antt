@@ -2,9 +2,9 @@
 use Rattle.std.specs.Prelude.{ℕ, ◌+◌, nat_lt, Bool, true, false, List, [], ◌∷◌}
 use Rattle.php_ast.specs.Symbol.{Symbol}
 use Rattle.php_ast.specs.Sign.{is_colon}
-use Rattle.php_ast.specs.Machine.{pick}
+use Rattle.php_ast.specs.Machine.{pick, advance}
 use Rattle.php_ast.specs.Depth.{depth_at}
-use Rattle.php_ast.specs.TooDeep.{depths_taken}
+use Rattle.php_ast.specs.TooDeep.{depth_inside, depths_taken}
 use Rattle.php_ast.specs.StatementSign.{StatementBeginning, at_block, statement_beginning, Behind, by_catch, by_finally, behind, body_strength, ends_outside, Fixed, right_paren}
 use Rattle.php_ast.specs.StatementForms.{of_block, list_open, if_open, loop_open, OpenStatement, Around, Values, of_echo, ExpressionPlace, as_value, as_test, as_walked, as_first, as_second, as_label, Names, of_classes, of_declare, StatementState, due_statement, done, due, in_expression, due_in_list, due_value, due_name, past_name, due_int, past_static_word, past_jump, past_if, past_loop, past_as, past_key, past_switch, due_case, past_default, past_block}
 use Rattle.php_ast.specs.StatementMachine.{body_level, advance_statement}
@@ -69,24 +69,24 @@ block_depth x o t = depth_past o t
 
 -- ---- states
 
--- the parentheses in which values, an expression or a name stand, or the cases of a `switch`
-abbrev pub values_depth : Values → ℕ
-values_depth of_echo = 0
-values_depth _ = 1
+-- inside the parentheses in which values, an expression or a name stand, or among the cases of a `switch`
+abbrev pub values_depth : Values → ℕ → ℕ
+values_depth of_echo d = d
+values_depth _ d = 1 + d
 
-abbrev pub place_depth : ExpressionPlace → ℕ
-place_depth (as_value values items) = values_depth values
-place_depth (as_test head) = 1
-place_depth as_walked = 1
-place_depth (as_first walked is_reference) = 1
-place_depth (as_second walked key is_reference) = 1
-place_depth (as_label e form cases) = 1
-place_depth _ = 0
+abbrev pub place_depth : ExpressionPlace → ℕ → ℕ
+place_depth (as_value values items) d = values_depth values d
+place_depth (as_test head) d = 1 + d
+place_depth as_walked d = 1 + d
+place_depth (as_first walked is_reference) d = 1 + d
+place_depth (as_second walked key is_reference) d = 1 + d
+place_depth (as_label e form cases) d = 1 + d
+place_depth _ d = d
 
-abbrev pub names_depth : Names → ℕ
-names_depth (of_classes body catches classes) = 1
-names_depth of_declare = 1
-names_depth _ = 0
+abbrev pub names_depth : Names → ℕ → ℕ
+names_depth (of_classes body catches classes) d = 1 + d
+names_depth of_declare d = 1 + d
+names_depth _ d = d
 
 -- the forms around what is due
 abbrev pub around : StatementState → Around
@@ -111,19 +111,19 @@ around (past_default e form cases o) = o
 around (past_block body catches o) = o
 
 -- Of fixed tokens, `)` alone stands inside what it ends.
-abbrev pub fixed_depth : List Fixed → ℕ
-fixed_depth (right_paren ∷ xs) = 1
-fixed_depth _ = 0
+abbrev pub fixed_depth : List Fixed → ℕ → ℕ
+fixed_depth (right_paren ∷ xs) d = 1 + d
+fixed_depth _ d = d
 
 abbrev pub statement_depth_at : StatementState → Symbol → ℕ
 statement_depth_at (due_statement o) t = begin_depth o t
 statement_depth_at (done a o) t = depth_past o t
-statement_depth_at (due xs m) t = fixed_depth xs + statement_depth (around m)
-statement_depth_at (in_expression place m o) t = depth_at m t + place_depth place + statement_depth o
+statement_depth_at (due xs m) t = fixed_depth xs (statement_depth (around m))
+statement_depth_at (in_expression place m o) t = depth_inside (advance m t) (depth_at m t) (place_depth place (statement_depth o))
 statement_depth_at (due_in_list list ss o) t = list_depth (list_open list ss) o t
-statement_depth_at (due_value values o) t = values_depth values + statement_depth o
-statement_depth_at (due_name names o) t = names_depth names + statement_depth o
-statement_depth_at (past_name names n o) t = names_depth names + statement_depth o
+statement_depth_at (due_value values o) t = values_depth values (statement_depth o)
+statement_depth_at (due_name names o) t = names_depth names (statement_depth o)
+statement_depth_at (past_name names n o) t = names_depth names (statement_depth o)
 statement_depth_at (due_int n o) t = 1 + statement_depth o
 statement_depth_at (past_static_word o) t = statement_depth o
 statement_depth_at (past_jump kind o) t = statement_depth o

@@ -1,12 +1,14 @@
 -- What holds of the reading of statements, for every list of symbols and every tree.
-use Rattle.std.specs.Prelude.{◌≡◌, ◌+◌, length, Bool, true, false, List, [], ◌∷◌}
-use Rattle.php_ast.specs.Symbol.{Symbol}
+use Rattle.std.specs.Prelude.{◌≡◌, ◌+◌, length, ℕ, Bool, true, false, List, [], ◌∷◌, map}
+use Rattle.php_lex.specs.Token.{Token}
+use Rattle.php_ast.specs.Symbol.{Symbol, symbol}
+use Rattle.php_ast.specs.View.{Note}
 use Rattle.php_ast.specs.Machine.{Nothing}
 use Rattle.php_ast.specs.Statements.{Statement, if_only, if_else, while, for, foreach, try_catch, ElseIfs, no_elseif, and_elseif, Body, single, list_behind_colon}
 use Rattle.php_ast.specs.StatementSpelling.{spell_statement}
 use Rattle.php_ast.specs.ProperStatement.{takes_else, IsProper}
 use Rattle.php_ast.specs.StatementSign.{Behind, by_other, by_catch, by_finally, behind, body_strength}
-use Rattle.php_ast.specs.StatementPlaced.{size_statement}
+use Rattle.php_ast.specs.StatementPlaced.{size_statement, statement_form, IsPlacedStatement}
 use Rattle.php_ast.specs.StatementReading.{read_statement}
 
 -- ---- what may follow a statement
@@ -59,6 +61,16 @@ SpellsStatement a w = IsProper a × (spell_statement a [] ≡ w)
 
 abbrev pub OneStatement : Type 0
 OneStatement = (a b : Statement Nothing) (w : List Symbol) → SpellsStatement a w → SpellsStatement b w → a ≡ b
+
+-- A statement is spelled by tokens, the first of which is at a place among all of them, where its form is and its
+-- notes are about them.
+pub record IsSpelledStatement (tokens : List Token) (at : ℕ) (a : Statement Note) (w : List Token) : Type 0 where
+  pub spelled : SpellsStatement (statement_form a) (map symbol w)
+  pub placed : IsPlacedStatement tokens at a
+
+abbrev pub OneStatementTree : Type 0
+OneStatementTree =
+    (tokens : List Token) (at : ℕ) (w : List Token) (a b : Statement Note) → IsSpelledStatement tokens at a w → IsSpelledStatement tokens at b w → a ≡ b
 
 -- ---- sizes
 

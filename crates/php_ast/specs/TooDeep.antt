@@ -14,6 +14,12 @@ abbrev pub depths_taken : {M : Type 0} → (M → Symbol → Option M) → (M �
 depths_taken step depth m [] = []
 depths_taken step depth m (t ∷ w) = taken (step m t) (depth m t) (λ n. depths_taken step depth n w)
 
+-- The nesting of a symbol that an inner machine takes counts from what is around that machine; a symbol that ends what it
+-- has read stands outside all of that.
+abbrev pub depth_inside : {M : Type 0} → Option M → ℕ → ℕ → ℕ
+depth_inside (Some m) n d = n + d
+depth_inside None n d = d
+
 -- For expressions this is the nesting that the laws speak of.
 abbrev pub WalksAgree : Type 0
 WalksAgree = (m : State) (w : List Symbol) → depths_taken advance depth_at m w ≡ depths_read m w

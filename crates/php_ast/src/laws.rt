@@ -1,14 +1,15 @@
 // Laws of the grammar. Each is the contract of a function that does nothing: it says what holds of the
 // definitions in specs/, for every tree and every list of symbols.
 
-ghost use Rattle.php_ast.specs.DeclarationLaws.{OneScript, ReadsMembersBack};
+ghost use Rattle.php_ast.specs.DeclarationLaws.{OneScript, OneScriptTree, OneSignature};
+ghost use Rattle.php_ast.specs.DeclarationLaws.{OneSignatureTree, ReadsMembersBack};
 ghost use Rattle.php_ast.specs.DeclarationLaws.{ReadsScriptsBack, ReadsSignaturesBack};
 ghost use Rattle.php_ast.specs.DeclarationLaws.{ScriptSizesAgree, SignatureSizesAgree};
 ghost use Rattle.php_ast.specs.Laws.{ReadingBegins, ReadsBack, OneForm, OneTree};
 ghost use Rattle.php_ast.specs.Laws.{NestingAgrees, SizesAgree, StopsExactly, Unfinished};
 ghost use Rattle.php_ast.specs.Rules.{RulesAgree};
 ghost use Rattle.php_ast.specs.StatementLaws.{OneStatement, ReadsStatementsBack};
-ghost use Rattle.php_ast.specs.StatementLaws.{StatementSizesAgree};
+ghost use Rattle.php_ast.specs.StatementLaws.{OneStatementTree, StatementSizesAgree};
 ghost use Rattle.php_ast.specs.TooDeep.{WalksAgree};
 
 /// What a reading has read begins the spelling of a proper tree.
@@ -104,4 +105,24 @@ pub fn signature_sizes_agree()
 /// A script has as many tokens as the places of its notes say.
 pub fn script_sizes_agree()
     ensures { ScriptSizesAgree }
+{}
+
+/// Tokens spell at most one statement, with its notes.
+pub fn one_statement_tree()
+    ensures { OneStatementTree }
+{}
+
+/// A list of symbols spells at most one signature.
+pub fn one_signature()
+    ensures { OneSignature }
+{}
+
+/// Tokens spell at most one signature, with its notes.
+pub fn one_signature_tree()
+    ensures { OneSignatureTree }
+{}
+
+/// Tokens spell at most one script, with its notes.
+pub fn one_script_tree()
+    ensures { OneScriptTree }
 {}
