@@ -18,3 +18,4 @@ mod Sizes
 mod PrintWeights
 mod PrintLists
 mod PrintViews
+mod PrintStatementWeights

@@ -25,3 +25,4 @@ pub mod StatementView
 pub mod Print
 pub mod PrintParts
 pub mod PrintElements
+pub mod PrintStatements

@@ -9,6 +9,8 @@ mod power;
 mod print;
 mod print_expression;
 mod print_signs;
+mod print_simple;
+mod print_statement;
 mod printed;
 mod printer;
 mod script;
@@ -23,7 +25,7 @@ pub use expression::{Argument, Class, ClassStep, Expr, Item, Link, Member, Named
 pub use operator::{ArrayForm, Assign, Binary, Count, Magic, Prefix};
 pub use php_first_tree as first_path;
 pub use power::{Grouping, Row, prefix_power_of, row_of};
-pub use print::print_expr;
+pub use print::{print_expr, print_stmt};
 pub use printed::Printed;
 pub use script::{Script, ScriptItem};
 pub use spot::{Name, Spot, Word};

@@ -3,11 +3,14 @@
 ghost use Rattle.std.specs.Prelude.{◌≡◌, [], map, IfOk};
 ghost use Rattle.php_ast.specs.Print.{printed_symbol};
 ghost use Rattle.php_ast.specs.Spelling.{spell};
+ghost use Rattle.php_ast.specs.StatementSpelling.{spell_statement};
+ghost use Rattle.php_ast.specs.StatementView.{statement_view};
 ghost use Rattle.php_ast.specs.View.{view};
 
 use crate::expression::Expr;
 use crate::printed::Printed;
 use crate::printer::Printer;
+use crate::statement::Stmt;
 use php_base::NoMemory;
 use std::alloc::Global;
 
@@ -18,5 +21,14 @@ pub fn print_expr(alloc: Global, e: &Expr) -> Result<Vec<Printed>, NoMemory>
 {
     let mut printer = Printer::new(alloc);
     printer.expression(e)?;
+    Ok(printer.finish())
+}
+
+/// The tokens that a statement is spelled with, as `print_expr` does it for an expression.
+pub fn print_stmt(alloc: Global, s: &Stmt) -> Result<Vec<Printed>, NoMemory>
+    ensures { IfOk result (λ tokens. map printed_symbol tokens.items ≡ spell_statement (statement_view s.now) []) }
+{
+    let mut printer = Printer::new(alloc);
+    printer.statement(s)?;
     Ok(printer.finish())
 }
