@@ -1,6 +1,7 @@
 -- The spelling of lists, element by element from the first one on.
 use Rattle.std.proofs.Common.{◌≡◌, ◌≤◌, ◌<◌, ℕ, ◌+◌, Bool, true, false, Option, Some, None, List, [], ◌∷◌, ◌++◌, map, drop, length, get_or, refl, sym, ◌∙◌, ap}
-use Rattle.std.specs.Prelude.{Result, OnOk}
+use Rattle.std.specs.Prelude.{Result, OnOk, ◌==◌}
+use Rattle.php_ast.specs.declared.spot.Name as rust_name
 use Rattle.std.proofs.lemmas.Result.{on_ok_weaker}
 use Rattle.std.proofs.lemmas.List.{at_drop_more, at_drop_all}
 use Rattle.php_lex.specs.declared.kind.Punct.TheVariants as mark
@@ -25,10 +26,13 @@ use Rattle.php_lex.specs.declared.kind.Keyword.TheVariants as word
 use Rattle.php_ast.specs.Symbol.{Symbol, keyword, punct}
 use Rattle.php_ast.specs.Tree.{Tree, Items, none, and, skip, plain, Pieces, Steps}
 use Rattle.php_ast.specs.Spelling.{spell, comma, spell_items, spell_pieces, spell_steps}
-use Rattle.php_ast.specs.Statements.{Sequence, empty, then_also, Statement, Statements, and_statement, ElseIfs, and_elseif, ElseIfLists, and_elseif_list, Cases, and_case, Catches, and_catch}
-use Rattle.php_ast.specs.StatementSpelling.{sign_if, separator, separated, spell_head, spell_statement, spell_statements, spell_elseifs, spell_elseif_lists, spell_cases, spell_catches}
-use Rattle.php_ast.specs.DeclarationSpelling.{joined}
-use Rattle.php_ast.specs.StatementView.{optional, sequence_from, name_view, names_view, statements_from, list_view, elseifs_from, elseif_lists_from, cases_from, catches_from, if_view, if_lists_view, try_view}
+use Rattle.php_ast.specs.Statements.{Sequence, empty, then_also, Name, Statement, Statements, and_statement, ElseIfs, and_elseif, ElseIfLists, and_elseif_list, Cases, and_case, Catches, and_catch}
+use Rattle.php_ast.specs.StatementSpelling.{commas, spell_name, sign_if, separator, separated, spell_head, spell_statement, spell_statements, spell_elseifs, spell_elseif_lists, spell_cases, spell_catches}
+use Rattle.php_ast.specs.DeclarationSpelling.{joined, spell_names, spell_member}
+use Rattle.php_ast.specs.PrintDeclarations.{spell_rules}
+use Rattle.php_ast.specs.declared.declaration.Rule as rust_rule
+use Rattle.php_lex.specs.declared.kind.Keyword.{Keyword}
+use Rattle.php_ast.specs.StatementView.{optional, sequence, sequence_from, rule_view, uses_view, name_view, names_view, statements_from, list_view, elseifs_from, elseif_lists_from, cases_from, catches_from, if_view, if_lists_view, try_view}
 use Rattle.php_ast.specs.PrintStatements.{spell_elseif, spell_elseif_list, spell_case, spell_braces, spell_catch, spell_else, spell_else_list, spell_finally}
 use Rattle.php_ast.specs.View.{Note, note, view, word_view, piece_more, pieces_from, item_more, items_from, argument_more, arguments_from, values_from, step_more, steps_from, property_of, with_suffix, with_suffixes, with_link, with_links}
 use Rattle.php_ast.specs.Print.{Prints}
@@ -59,6 +63,13 @@ pub step_all : {A B : Type 0} (each : B → List Symbol → List Symbol) (g : A 
     → (w : List Symbol) → new ++ all each (map g (drop (i + 1) xs)) w ≡ whole w
 step_all each g xs i x s new whole within is before one w =
     one (all each (map g (drop (i + 1) xs)) w) ∙ ap (λ u. s ++ u) (at_place (λ ys. all each (map g ys) w) xs i x within is) ∙ before w
+
+-- likewise where the element is a copy
+pub step_copied : {A B : Type 0} (each : B → List Symbol → List Symbol) (g : A → B) (xs : List A) (i : ℕ) (d : A) (s new : List Symbol) (whole : List Symbol → List Symbol)
+    → i < length xs → ((w : List Symbol) → s ++ all each (map g (drop i xs)) w ≡ whole w) → Prints (each (g (get_or xs i d))) s new
+    → (w : List Symbol) → new ++ all each (map g (drop (i + 1) xs)) w ≡ whole w
+step_copied each g xs i d s new whole within before one w =
+    one (all each (map g (drop (i + 1) xs)) w) ∙ ap (λ u. s ++ u) (sym (at_drop_more (λ ys. all each (map g ys) w) xs i d within)) ∙ before w
 
 pub end_all : {A B : Type 0} (each : B → List Symbol → List Symbol) (g : A → B) (xs : List A) (i : ℕ) (s : List Symbol) (whole : List Symbol → List Symbol)
     → length xs ≤ i → ((w : List Symbol) → s ++ all each (map g (drop i xs)) w ≡ whole w) → (w : List Symbol) → s ++ w ≡ whole w
@@ -253,3 +264,21 @@ pub try_spelled : (at : Note) (body : List (Statement Note)) (catches : Catches 
     → spell_statement (try_view at (list_view body) catches last) w ≡ keyword word.Try ∷ spell_braces body (spell_catches catches (spell_finally last w))
 try_spelled at body catches None w = refl
 try_spelled at body catches (Some s) w = refl
+
+-- ---- declarations
+
+names_more : (behind : Keyword) (before : Sequence (Name Note)) (x : Name Note) (xs : List (Name Note)) (w : List Symbol)
+    → spell_names behind (sequence_from (then_also before x) xs) w ≡ keyword behind ∷ commas spell_name (sequence_from (then_also before x) xs) w
+names_more behind before x [] w = refl
+names_more behind before x (y ∷ ys) w = names_more behind (then_also before x) y ys w
+
+-- names behind a word, where there are some
+pub names_spelled : (behind : Keyword) (xs : List rust_name.Name) (w : List Symbol) → false ≡ (length xs == 0)
+    → spell_names behind (names_view xs) w ≡ keyword behind ∷ commas spell_name (names_view xs) w
+names_spelled behind [] w some = absurd (cc)
+names_spelled behind (x ∷ xs) w some = names_more behind empty (name_view x) (map name_view xs) w
+
+pub uses_spelled : (at : Note) (names : Sequence (Name Note)) (rules : Option (List rust_rule.Rule)) (w : List Symbol)
+    → spell_member (uses_view at names rules) w ≡ keyword word.Use ∷ commas spell_name names (spell_rules (optional (sequence rule_view) rules) w)
+uses_spelled at names None w = refl
+uses_spelled at names (Some rules) w = refl

@@ -26,3 +26,4 @@ pub mod Print
 pub mod PrintParts
 pub mod PrintElements
 pub mod PrintStatements
+pub mod PrintDeclarations

@@ -55,9 +55,9 @@ use crate::expression::{
 };
 use crate::operator::ArrayForm;
 use crate::print_signs::{
-    AMPERSAND, ARROW, COLON, DOUBLE_ARROW, EXIT, INSTANCE_OF, LEFT, LEFT_BRACKET, QUESTION, RIGHT,
-    RIGHT_BRACKET, STATIC, Sign, YIELD, assign_sign, binary_sign, count_sign, magic_sign,
-    prefix_sign,
+    AMPERSAND, ARROW, COLON, DOUBLE_ARROW, DOUBLE_COLON, EXIT, INSTANCE_OF, LEFT, LEFT_BRACKET,
+    QUESTION, RIGHT, RIGHT_BRACKET, STATIC, Sign, YIELD, assign_sign, binary_sign, count_sign,
+    magic_sign, prefix_sign,
 };
 use crate::printed::Printed;
 use crate::printer::Printer;
@@ -394,7 +394,7 @@ impl Printer {
     fn member(&mut self, member: &Member) -> Result<(), NoMemory>
         ensures { OnOk result (Prints (λ w. symbol.punct mark.DoubleColon ∷ member_symbol (member_view member.now) ∷ w) self.old self.new) }
     {
-        self.punct(Punct::DoubleColon)?;
+        self.sign(DOUBLE_COLON)?;
         match member {
             Member::Word(word) => self.word(word),
             Member::Variable(name) => self.variable(&name.text),

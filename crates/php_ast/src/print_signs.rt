@@ -48,6 +48,8 @@ pub(crate) const COLON: Sign = Sign::Punct(Punct::Colon);
 
 pub(crate) const DOUBLE_ARROW: Sign = Sign::Punct(Punct::DoubleArrow);
 
+pub(crate) const DOUBLE_COLON: Sign = Sign::Punct(Punct::DoubleColon);
+
 pub(crate) const ELSE: Sign = Sign::Keyword(Keyword::Else);
 
 pub(crate) const EXIT: Sign = Sign::Keyword(Keyword::Exit);
