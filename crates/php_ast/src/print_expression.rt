@@ -180,11 +180,11 @@ impl Printer {
         ensures { OnOk result (Prints (λ w. list_opening (tree.array form) (spell_items (items_from tree.none (map (item_with view) items.now)) (list_closing (tree.array form) ∷ w))) self.old self.new) }
     {
         self.array_opening(form)?;
-        let mut is_later = false;
+        let mut has_before = false;
         for item in items {
-            self.punct_if(is_later, Punct::Comma)?;
+            self.punct_if(has_before, Punct::Comma)?;
             self.item(item)?;
-            is_later = true;
+            has_before = true;
         }
         self.array_closing(form)
     }

@@ -59,7 +59,7 @@ template-loop-piece-preserved t c =
 
 pub array-loop-item-preserved : goal.array-loop-item-preserved
 array-loop-item-preserved t c =
-    step_rest (symbol.punct mark.Comma) spell_item (item_with view) c.args.items.now c.loop-item.item-index c.item-item.result c.loop-item.is_later _ _ _ _ c.loop-item-test.true c.item-item.is c.loop-item.invariant c.in_ok-punct_if.ensures c.in_ok-item.ensures
+    step_rest (symbol.punct mark.Comma) spell_item (item_with view) c.args.items.now c.loop-item.item-index c.item-item.result c.loop-item.has_before _ _ _ _ c.loop-item-test.true c.item-item.is c.loop-item.invariant c.in_ok-punct_if.ensures c.in_ok-item.ensures
 
 pub values-loop-value-preserved : goal.values-loop-value-preserved
 values-loop-value-preserved t c =
@@ -115,7 +115,7 @@ template-returns t c =
 pub array-returns : goal.array-returns
 array-returns t c =
     let over : length c.args.items.now ≤ c.loop-item.item-index = omega arith in
-    let before = end_rest (symbol.punct mark.Comma) spell_item (item_with view) c.args.items.now c.loop-item.item-index c.loop-item.is_later _ _ over c.loop-item.invariant in
+    let before = end_rest (symbol.punct mark.Comma) spell_item (item_with view) c.args.items.now c.loop-item.item-index c.loop-item.has_before _ _ over c.loop-item.invariant in
     closed _ _ _ (list_closing (array c.args.form)) _ before c.array_closing.ensures
 
 pub arguments-returns : goal.arguments-returns

@@ -74,7 +74,7 @@ invariant-template-loop-piece l =
 
 abbrev pub invariant-array-loop-item : goal.invariant-array-loop-item
 invariant-array-loop-item l =
-    (w : List Symbol) → l.self ++ rest (punct mark.Comma) spell_item l.is_later (map (item_with view) (drop l.item-index l.items)) w
+    (w : List Symbol) → l.self ++ rest (punct mark.Comma) spell_item l.has_before (map (item_with view) (drop l.item-index l.items)) w
     ≡ l.fn.self ++ list_opening (array l.form) (spell_items (items_from none (map (item_with view) l.items)) w)
 
 abbrev pub invariant-values-loop-value : goal.invariant-values-loop-value
