@@ -44,3 +44,4 @@ mod Shifts
 mod StatementShifts
 mod StatementTrace
 mod StatementTraceBack
+mod PrintStatementWeights

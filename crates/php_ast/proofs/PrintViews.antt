@@ -20,6 +20,12 @@ use Rattle.php_ast.specs.declared.expression.Link.{Link}
 use Rattle.php_ast.specs.declared.expression.Link.TheVariants as link
 use Rattle.php_ast.specs.Tree.{Tree, none, new_with}
 use Rattle.php_ast.specs.View.{Note, note, view, view_step, class_view, arguments_from, with_suffixes, with_links}
+use Rattle.php_ast.specs.declared.statement.Stmt.{Stmt}
+use Rattle.php_ast.specs.declared.statement.Stmt.TheVariants.{Block, rolls-Block}
+use Rattle.php_ast.specs.declared.statement.Stmt.TheOpen.{Stmt-F}
+use Rattle.php_ast.specs.declared.statement.Stmt.TheFolds.{fold-roll-Stmt}
+use Rattle.php_ast.specs.Statements.{Statement, block}
+use Rattle.php_ast.specs.StatementView.{list_view, statement_view, statement_step}
 use Rattle.php_ast.specs.PrintParts.{named_with, suffix_with, class_with, argument_with, link_with}
 
 map_same : {A B : Type 0} (f g : A → B) → ((x : A) → f x ≡ g x) → (xs : List A) → map f xs ≡ map g xs
@@ -70,3 +76,6 @@ pub view_run : (e : Expr) (links : List (Link Expr)) → view (Run e links) ≡ 
 view_run e links =
     ap view (sym (rolls-Run e links)) ∙ fold-roll-Expr (Tree Note) view_step (Expr-F.Run e links)
     ∙ ap (with_links (view e)) (map_same _ (link_with view) (link_same _ (λ op k. refl) (λ a b. refl) (λ b. refl)) links)
+
+pub view_block : (spot : Spot) (body : List Stmt) → statement_view (Block spot body) ≡ block (note spot) (list_view (map statement_view body))
+view_block spot body = ap statement_view (sym (rolls-Block spot body)) ∙ fold-roll-Stmt (Statement Note) statement_step (Stmt-F.Block spot body)

@@ -41,3 +41,5 @@ pub mod StatementView
 pub mod Print
 pub mod PrintParts
 pub mod PrintElements
+pub mod PrintStatements
+pub mod PrintDeclarations

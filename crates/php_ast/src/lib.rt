@@ -7,8 +7,16 @@ pub mod laws;
 mod operator;
 mod power;
 mod print;
+mod print_declaration;
 mod print_expression;
+mod print_member;
 mod print_signs;
+mod print_simple;
+mod print_statement;
+#[cfg(test)]
+mod print_tests;
+mod print_text;
+mod print_words;
 mod printed;
 mod printer;
 mod script;
@@ -23,7 +31,8 @@ pub use expression::{Argument, Class, ClassStep, Expr, Item, Link, Member, Named
 pub use operator::{ArrayForm, Assign, Binary, Count, Magic, Prefix};
 pub use php_first_tree as first_path;
 pub use power::{Grouping, Row, prefix_power_of, row_of};
-pub use print::print_expr;
+pub use print::{print_expr, print_script, print_stmt};
+pub use print_text::lay_out;
 pub use printed::Printed;
 pub use script::{Script, ScriptItem};
 pub use spot::{Name, Spot, Word};

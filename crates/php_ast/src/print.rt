@@ -1,13 +1,18 @@
 // The token list of a tree, for people who debug.
 
 ghost use Rattle.std.specs.Prelude.{◌≡◌, [], map, IfOk};
+ghost use Rattle.php_ast.specs.DeclarationSpelling.{spell_script};
 ghost use Rattle.php_ast.specs.Print.{printed_symbol};
 ghost use Rattle.php_ast.specs.Spelling.{spell};
+ghost use Rattle.php_ast.specs.StatementSpelling.{spell_statement};
+ghost use Rattle.php_ast.specs.StatementView.{script_view, statement_view};
 ghost use Rattle.php_ast.specs.View.{view};
 
 use crate::expression::Expr;
 use crate::printed::Printed;
 use crate::printer::Printer;
+use crate::script::Script;
+use crate::statement::Stmt;
 use php_base::NoMemory;
 use std::alloc::Global;
 
@@ -18,5 +23,23 @@ pub fn print_expr(alloc: Global, e: &Expr) -> Result<Vec<Printed>, NoMemory>
 {
     let mut printer = Printer::new(alloc);
     printer.expression(e)?;
+    Ok(printer.finish())
+}
+
+/// The tokens that a statement is spelled with, as `print_expr` does it for an expression.
+pub fn print_stmt(alloc: Global, s: &Stmt) -> Result<Vec<Printed>, NoMemory>
+    ensures { IfOk result (λ tokens. map printed_symbol tokens.items ≡ spell_statement (statement_view s.now) []) }
+{
+    let mut printer = Printer::new(alloc);
+    printer.statement(s)?;
+    Ok(printer.finish())
+}
+
+/// The tokens that a script is spelled with, as `print_expr` does it for an expression.
+pub fn print_script(alloc: Global, script: &Script) -> Result<Vec<Printed>, NoMemory>
+    ensures { IfOk result (λ tokens. map printed_symbol tokens.items ≡ spell_script (script_view script.now)) }
+{
+    let mut printer = Printer::new(alloc);
+    printer.script_items(script.items.as_slice())?;
     Ok(printer.finish())
 }

@@ -33,6 +33,7 @@ ghost use Rattle.php_ast.specs.Spelling.{
   spell_pieces,
   spell_steps,
 };
+ghost use Rattle.php_ast.specs.StatementSpelling.{spell_head};
 ghost use Rattle.php_ast.specs.Symbol as symbol;
 ghost use Rattle.php_ast.specs.Tree as tree;
 ghost use Rattle.php_ast.specs.View.{
@@ -53,38 +54,16 @@ use crate::expression::{
     Argument, Class, ClassStep, Expr, Item, Link, Member, Named, Piece, Suffix,
 };
 use crate::operator::ArrayForm;
-use crate::print_signs::{Sign, assign_sign, binary_sign, count_sign, magic_sign, prefix_sign};
+use crate::print_signs::{
+    AMPERSAND, ARROW, COLON, DOUBLE_ARROW, DOUBLE_COLON, EXIT, INSTANCE_OF, LEFT, LEFT_BRACKET,
+    QUESTION, RIGHT, RIGHT_BRACKET, STATIC, Sign, YIELD, assign_sign, binary_sign, count_sign,
+    magic_sign, prefix_sign,
+};
 use crate::printed::Printed;
 use crate::printer::Printer;
 use crate::spot::{Name, Word};
 use php_base::NoMemory;
 use php_lex::{Keyword, Punct};
-
-const AMPERSAND: Sign = Sign::Punct(Punct::Ampersand);
-
-const ARROW: Sign = Sign::Punct(Punct::Arrow);
-
-const COLON: Sign = Sign::Punct(Punct::Colon);
-
-const DOUBLE_ARROW: Sign = Sign::Punct(Punct::DoubleArrow);
-
-const EXIT: Sign = Sign::Keyword(Keyword::Exit);
-
-const INSTANCE_OF: Sign = Sign::Keyword(Keyword::InstanceOf);
-
-const LEFT: Sign = Sign::Punct(Punct::LeftParen);
-
-const LEFT_BRACKET: Sign = Sign::Punct(Punct::LeftBracket);
-
-const QUESTION: Sign = Sign::Punct(Punct::Question);
-
-const RIGHT: Sign = Sign::Punct(Punct::RightParen);
-
-const RIGHT_BRACKET: Sign = Sign::Punct(Punct::RightBracket);
-
-const STATIC: Sign = Sign::Keyword(Keyword::Static);
-
-const YIELD: Sign = Sign::Keyword(Keyword::Yield);
 
 impl Printer {
     /// Prints an expression.
@@ -154,6 +133,13 @@ impl Printer {
         self.signs(behind)
     }
 
+    /// Prints a word, and an expression in parentheses.
+    pub(crate) fn head(&mut self, word: Keyword, e: &Expr) -> Result<(), NoMemory>
+        ensures { OnOk result (Prints (spell_head word (view e.now)) self.old self.new) }
+    {
+        self.around(&[Sign::Keyword(word), LEFT], e, &[RIGHT])
+    }
+
     // Two expressions with tokens between them.
     #[cycle(expressions)]
     fn pair(&mut self, left: &Expr, between: &[Sign], right: &Expr) -> Result<(), NoMemory>
@@ -194,11 +180,11 @@ impl Printer {
         ensures { OnOk result (Prints (λ w. list_opening (tree.array form) (spell_items (items_from tree.none (map (item_with view) items.now)) (list_closing (tree.array form) ∷ w))) self.old self.new) }
     {
         self.array_opening(form)?;
-        let mut is_later = false;
+        let mut has_before = false;
         for item in items {
-            self.punct_if(is_later, Punct::Comma)?;
+            self.punct_if(has_before, Punct::Comma)?;
             self.item(item)?;
-            is_later = true;
+            has_before = true;
         }
         self.array_closing(form)
     }
@@ -408,7 +394,7 @@ impl Printer {
     fn member(&mut self, member: &Member) -> Result<(), NoMemory>
         ensures { OnOk result (Prints (λ w. symbol.punct mark.DoubleColon ∷ member_symbol (member_view member.now) ∷ w) self.old self.new) }
     {
-        self.punct(Punct::DoubleColon)?;
+        self.sign(DOUBLE_COLON)?;
         match member {
             Member::Word(word) => self.word(word),
             Member::Variable(name) => self.variable(&name.text),

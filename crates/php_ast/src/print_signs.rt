@@ -38,6 +38,44 @@ impl Sign {
     }
 }
 
+pub(crate) const AMPERSAND: Sign = Sign::Punct(Punct::Ampersand);
+
+pub(crate) const ARROW: Sign = Sign::Punct(Punct::Arrow);
+
+pub(crate) const ASSIGN: Sign = Sign::Punct(Punct::Assign);
+
+pub(crate) const COLON: Sign = Sign::Punct(Punct::Colon);
+
+pub(crate) const DOUBLE_ARROW: Sign = Sign::Punct(Punct::DoubleArrow);
+
+pub(crate) const DOUBLE_COLON: Sign = Sign::Punct(Punct::DoubleColon);
+
+pub(crate) const ELSE: Sign = Sign::Keyword(Keyword::Else);
+
+pub(crate) const EXIT: Sign = Sign::Keyword(Keyword::Exit);
+
+pub(crate) const INSTANCE_OF: Sign = Sign::Keyword(Keyword::InstanceOf);
+
+pub(crate) const LEFT: Sign = Sign::Punct(Punct::LeftParen);
+
+pub(crate) const LEFT_BRACE: Sign = Sign::Punct(Punct::LeftBrace);
+
+pub(crate) const LEFT_BRACKET: Sign = Sign::Punct(Punct::LeftBracket);
+
+pub(crate) const QUESTION: Sign = Sign::Punct(Punct::Question);
+
+pub(crate) const RIGHT: Sign = Sign::Punct(Punct::RightParen);
+
+pub(crate) const RIGHT_BRACE: Sign = Sign::Punct(Punct::RightBrace);
+
+pub(crate) const RIGHT_BRACKET: Sign = Sign::Punct(Punct::RightBracket);
+
+pub(crate) const SEMICOLON: Sign = Sign::Punct(Punct::Semicolon);
+
+pub(crate) const STATIC: Sign = Sign::Keyword(Keyword::Static);
+
+pub(crate) const YIELD: Sign = Sign::Keyword(Keyword::Yield);
+
 /// The token of an operator between two operands.
 pub(crate) fn binary_sign(op: Binary) -> Sign
     ensures { sign_symbol result ≡ binary_symbol op }

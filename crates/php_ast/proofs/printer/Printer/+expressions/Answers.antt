@@ -59,15 +59,15 @@ template-loop-piece-preserved t c =
 
 pub array-loop-item-preserved : goal.array-loop-item-preserved
 array-loop-item-preserved t c =
-    step_rest spell_item (item_with view) c.args.items.now c.loop-item.item-index c.item-item.result c.loop-item.is_later _ _ _ _ c.loop-item-test.true c.item-item.is c.loop-item.invariant c.in_ok-punct_if.ensures c.in_ok-item.ensures
+    step_rest (symbol.punct mark.Comma) spell_item (item_with view) c.args.items.now c.loop-item.item-index c.item-item.result c.loop-item.has_before _ _ _ _ c.loop-item-test.true c.item-item.is c.loop-item.invariant c.in_ok-punct_if.ensures c.in_ok-item.ensures
 
 pub values-loop-value-preserved : goal.values-loop-value-preserved
 values-loop-value-preserved t c =
-    step_rest spell view c.args.values.now c.loop-value.value-index c.value-item.result c.loop-value.is_later _ _ _ _ c.loop-value-test.true c.value-item.is c.loop-value.invariant c.in_ok-punct_if.ensures c.in_ok-expression.ensures
+    step_rest (symbol.punct mark.Comma) spell view c.args.values.now c.loop-value.value-index c.value-item.result c.loop-value.is_later _ _ _ _ c.loop-value-test.true c.value-item.is c.loop-value.invariant c.in_ok-punct_if.ensures c.in_ok-expression.ensures
 
 pub arguments-loop-argument-preserved : goal.arguments-loop-argument-preserved
 arguments-loop-argument-preserved t c =
-    step_rest spell_argument (argument_with view) c.args.arguments.now c.loop-argument.argument-index c.argument-item.result c.loop-argument.is_later _ _ _ _ c.loop-argument-test.true c.argument-item.is c.loop-argument.invariant c.in_ok-punct_if.ensures c.in_ok-argument.ensures
+    step_rest (symbol.punct mark.Comma) spell_argument (argument_with view) c.args.arguments.now c.loop-argument.argument-index c.argument-item.result c.loop-argument.is_later _ _ _ _ c.loop-argument-test.true c.argument-item.is c.loop-argument.invariant c.in_ok-punct_if.ensures c.in_ok-argument.ensures
 
 pub chain-loop-suffix-preserved : goal.chain-loop-suffix-preserved
 chain-loop-suffix-preserved t c =
@@ -115,13 +115,13 @@ template-returns t c =
 pub array-returns : goal.array-returns
 array-returns t c =
     let over : length c.args.items.now ≤ c.loop-item.item-index = omega arith in
-    let before = end_rest spell_item (item_with view) c.args.items.now c.loop-item.item-index c.loop-item.is_later _ _ over c.loop-item.invariant in
+    let before = end_rest (symbol.punct mark.Comma) spell_item (item_with view) c.args.items.now c.loop-item.item-index c.loop-item.has_before _ _ over c.loop-item.invariant in
     closed _ _ _ (list_closing (array c.args.form)) _ before c.array_closing.ensures
 
 pub arguments-returns : goal.arguments-returns
 arguments-returns t c =
     let over : length c.args.arguments.now ≤ c.loop-argument.argument-index = omega arith in
-    let before = end_rest spell_argument (argument_with view) c.args.arguments.now c.loop-argument.argument-index c.loop-argument.is_later _ _ over c.loop-argument.invariant in
+    let before = end_rest (symbol.punct mark.Comma) spell_argument (argument_with view) c.args.arguments.now c.loop-argument.argument-index c.loop-argument.is_later _ _ over c.loop-argument.invariant in
     closed _ _ _ (symbol.punct mark.RightParen) _ before c.sign-2.ensures
 
 pub chain-returns : goal.chain-returns

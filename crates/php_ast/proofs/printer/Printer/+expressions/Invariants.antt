@@ -74,16 +74,16 @@ invariant-template-loop-piece l =
 
 abbrev pub invariant-array-loop-item : goal.invariant-array-loop-item
 invariant-array-loop-item l =
-    (w : List Symbol) → l.self ++ rest spell_item l.is_later (map (item_with view) (drop l.item-index l.items)) w
+    (w : List Symbol) → l.self ++ rest (punct mark.Comma) spell_item l.has_before (map (item_with view) (drop l.item-index l.items)) w
     ≡ l.fn.self ++ list_opening (array l.form) (spell_items (items_from none (map (item_with view) l.items)) w)
 
 abbrev pub invariant-values-loop-value : goal.invariant-values-loop-value
 invariant-values-loop-value l =
-    (w : List Symbol) → l.self ++ rest spell l.is_later (map view (drop l.value-index l.values)) w ≡ l.fn.self ++ spell_items (values_from none (map view l.values)) w
+    (w : List Symbol) → l.self ++ rest (punct mark.Comma) spell l.is_later (map view (drop l.value-index l.values)) w ≡ l.fn.self ++ spell_items (values_from none (map view l.values)) w
 
 abbrev pub invariant-arguments-loop-argument : goal.invariant-arguments-loop-argument
 invariant-arguments-loop-argument l =
-    (w : List Symbol) → l.self ++ rest spell_argument l.is_later (map (argument_with view) (drop l.argument-index l.arguments)) w
+    (w : List Symbol) → l.self ++ rest (punct mark.Comma) spell_argument l.is_later (map (argument_with view) (drop l.argument-index l.arguments)) w
     ≡ l.fn.self ++ punct mark.LeftParen ∷ spell_items (arguments_from none (map (argument_with view) l.arguments)) w
 
 abbrev pub invariant-chain-loop-suffix : goal.invariant-chain-loop-suffix
