@@ -21,7 +21,7 @@ Behind line text l =
     cond (is_label_line (name_of text l) (drop l.start text)) (Ok (one Kind.Str (l.start + l.len) [] stay))
     (cond (l.quote == 39) (nowdoc line (name_of text l) text l.start) (heredoc_piece line (name_of text l) text l.start))
 
-name_len_is : (text : Text) (l : Label) → Opens text l → length (name_of text l) ≡ l.len
+pub name_len_is : (text : Text) (l : Label) → Opens text l → length (name_of text l) ≡ l.len
 name_len_is text l o = length-take-le l.len (drop l.at text) (name_within (drop l.at text) l.len o.name)
 
 pub behind_is : (line : ℕ) (text : Text) (l : Label) → Opens text l

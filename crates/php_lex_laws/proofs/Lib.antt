@@ -1,10 +1,14 @@
 pub mod DigitLemmas
+pub mod ExampleParts
+pub mod Examples
 pub mod GivenLemmas
 pub mod HeredocLemmas
 pub mod InsideLemmas
 pub mod KeyLemmas
 pub mod LabelLemmas
+pub mod LongestCuts
 pub mod LongestLemmas
+pub mod MoreExamples
 pub mod OutsideLemmas
 pub mod PartLemmas
 pub mod RangeLemmas
@@ -16,4 +20,5 @@ pub mod SignLemmas
 pub mod Standing
 pub mod TemplateCases
 pub mod TemplateLaws
+pub mod WithinLemmas
 pub mod WordLemmas

@@ -1,5 +1,5 @@
 -- The table of punctuators gives the longest, and what its rows are.
-use Rattle.std.proofs.Common.{◌≡◌, ℕ, ◌<◌, ◌≤◌, Bool, true, false, not, ◌&&◌, ◌||◌, nat_eq, nat_le, nat_lt, cond, List, [], ◌∷◌, length, take, Option, Some, refl, sym, ap, ◌∙◌, arith, inl, inr, ⊎_elim, get_or-take}
+use Rattle.std.proofs.Common.{◌≡◌, ℕ, zero, suc, ◌<◌, ◌≤◌, Bool, true, false, not, ◌&&◌, ◌||◌, nat_eq, nat_le, nat_lt, cond, List, [], ◌∷◌, length, take, Option, Some, refl, sym, ap, ◌∙◌, arith, inl, inr, ⊎_elim, get_or-take}
 use Rattle.std.specs.Prelude.{slice_index, ◌==◌, bytes_eq}
 use Rattle.std.specs.Char.{is_ascii_digit}
 use Rattle.std.specs.List.{starts_with}
@@ -201,3 +201,12 @@ paren_short text sign n matches first =
     by_first_byte : (p q : Bool) → p ≡ true → (not p || q) ≡ true → q ≡ true
     by_first_byte true q h k = k
     by_first_byte false q h k = absurd (cc)
+
+pub sign_within : (text : Text) (sign : Punct) (n : ℕ) → Matches punctuators text sign n → n ≤ length text
+unfolding punctuators
+sign_within text sign n matches = omega (arith, (match_checks short_row punctuators text sign n refl matches).1, take_within n text)
+  where
+    take_within : (n : ℕ) (text : Text) → length (take n text) ≤ length text
+    take_within zero text = omega arith
+    take_within (suc n) [] = omega arith
+    take_within (suc n) (b ∷ text) = omega (arith, take_within n text)

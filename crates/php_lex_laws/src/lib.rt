@@ -4,14 +4,17 @@
 #[cfg(test)]
 mod texts;
 
-ghost use Rattle.std.specs.Prelude.{◌≡◌, ◌<◌, ◌≤◌, ℕ, length, Some, Ok, Err};
+ghost use Rattle.std.specs.Prelude.{◌≡◌, ◌<◌, ◌≤◌, ℕ, List, length, Some, Ok, Err};
 ghost use Rattle.php_lex.specs.declared.fail.LexFail.{LexFail};
 ghost use Rattle.php_lex.specs.declared.kind.Punct.{Punct};
 ghost use Rattle.php_lex.specs.Bytes.{Text};
+ghost use Rattle.php_lex.specs.Cut.{Cuts, Stops};
 ghost use Rattle.php_lex.specs.Modes.{Mode};
 ghost use Rattle.php_lex.specs.Pieces.{Piece, piece};
 ghost use Rattle.php_lex.specs.Punctuators.{punctuator, punctuators};
-ghost use Rattle.php_lex_laws.specs.Longest.{Form, given, IsPieceAt, IsFaultAt};
+ghost use Rattle.php_lex.specs.Token.{Token};
+ghost use Rattle.php_lex_laws.specs.Longest.{Form, HasForm, given, IsPieceAt, IsFaultAt};
+ghost use Rattle.php_lex_laws.specs.LongestCut.{IsCut, IsStop};
 ghost use Rattle.php_lex_laws.specs.ScriptForms.{Matches};
 
 /// Of the punctuators with which a text begins the longest is taken.
@@ -30,8 +33,7 @@ pub fn piece_is_longest()
 
 /// The longest bytes that have a form of the mode are the piece there, unless an exception stands there.
 pub fn longest_is_piece()
-    ensures { (mode : Mode) (line : ℕ) (text : Text) (n : ℕ) (form : Form mode)
-        → 0 < length text → IsPieceAt mode text n form
+    ensures { (mode : Mode) (line : ℕ) (text : Text) (n : ℕ) (form : Form mode) → IsPieceAt mode text n form
         → (p : Piece) × ((piece mode line text ≡ Ok p) × ((p.len ≡ n) × (p ≡ given mode form line text n))) }
 {}
 
@@ -45,4 +47,24 @@ pub fn no_piece_is_fault()
 pub fn fault_is_no_piece()
     ensures { (mode : Mode) (line : ℕ) (text : Text) (fault : LexFail)
         → 0 < length text → IsFaultAt mode line text fault → piece mode line text ≡ Err fault }
+{}
+
+/// A cut by what stands at each place is a cut into the longest pieces, and the other way round.
+pub fn cut_is_longest()
+    ensures longest { (text : Text) (pieces : List Text) (found : List Token)
+        → Cuts text pieces found → IsCut text pieces found }
+    ensures back { (text : Text) (pieces : List Text) (found : List Token)
+        → IsCut text pieces found → Cuts text pieces found }
+{}
+
+/// Where pieces stop at a place, the longest pieces stop there, for the same fault, and the other way round.
+pub fn stop_is_longest()
+    ensures longest { (text : Text) (fault : LexFail) → Stops text fault → IsStop text fault }
+    ensures back { (text : Text) (fault : LexFail) → IsStop text fault → Stops text fault }
+{}
+
+/// Bytes that have a form are at least one, and all of them lie in the text.
+pub fn form_lies_in_text()
+    ensures { (mode : Mode) (form : Form mode) (text : Text) (n : ℕ) → HasForm mode form text n
+        → (0 < n) × (n ≤ length text) }
 {}
