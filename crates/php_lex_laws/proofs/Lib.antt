@@ -1,6 +1,7 @@
 pub mod DigitLemmas
 pub mod ExampleParts
 pub mod Examples
+pub mod ExistenceLemmas
 pub mod GivenLemmas
 pub mod HeredocLemmas
 pub mod InsideLemmas

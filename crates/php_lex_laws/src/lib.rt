@@ -4,7 +4,7 @@
 #[cfg(test)]
 mod texts;
 
-ghost use Rattle.std.specs.Prelude.{◌≡◌, ◌<◌, ◌≤◌, ℕ, List, length, Some, Ok, Err};
+ghost use Rattle.std.specs.Prelude.{◌≡◌, ◌⊎◌, ◌<◌, ◌≤◌, ℕ, List, length, Some, Ok, Err};
 ghost use Rattle.php_lex.specs.declared.fail.LexFail.{LexFail};
 ghost use Rattle.php_lex.specs.declared.kind.Punct.{Punct};
 ghost use Rattle.php_lex.specs.Bytes.{Text};
@@ -67,4 +67,10 @@ pub fn stop_is_longest()
 pub fn form_lies_in_text()
     ensures { (mode : Mode) (form : Form mode) (text : Text) (n : ℕ) → HasForm mode form text n
         → (0 < n) × (n ≤ length text) }
+{}
+
+/// Each text has a cut into the longest pieces, or they stop at a place.
+pub fn cut_or_stop()
+    ensures { (text : Text) → ((pieces : List Text) × ((found : List Token) × IsCut text pieces found))
+        ⊎ ((fault : LexFail) × IsStop text fault) }
 {}
