@@ -1,7 +1,9 @@
 // An array: entries in the order of their making, found by their keys.
-ghost use Rattle.std.specs.Prelude.{◌≡◌, ◌+◌, ◌-◌, ◌^◌, ◌<◌, ◌≤◌, ◌↔◌, min, IsTrue, IsOk, IfOk, IfErr, OnOk, OnErr, is_some, if◌then◌else◌, false, None, Some, Err, pos, option_copied, option_map, vec_len};
+ghost use Rattle.std.specs.Prelude.{◌≡◌, ◌+◌, ◌-◌, ◌^◌, ◌<◌, ◌≤◌, ◌↔◌, min, IsTrue, IsSome, IsOk, IfOk, IfErr, OnOk, OnErr, is_some, if◌then◌else◌, false, None, Some, Err, pos, option_copied, option_map, vec_len};
+ghost use Rattle.std.specs.Borrow.{sem};
+ghost use Rattle.std.specs.Option.{option_copied_mut};
 ghost use Rattle.php_entries.specs.Listing.{Listing, no_entries, count_of, entry_at, value_at, has_key, entry_after, last_of, is_at_limit};
-ghost use Rattle.php_entries.specs.Changes.{Grown, Full, Limit, with_entry, set_value, append_value, remove_key, pop_entry, with_values};
+ghost use Rattle.php_entries.specs.Changes.{Grown, Full, Limit, with_entry, with_value_under, set_value, append_value, remove_key, pop_entry, with_values};
 ghost use Rattle.php_entries.specs.Soundness.{IsSound};
 ghost use Rattle.php_array.specs.Answers.{unset_value, unappended_value, shown_entry, key_and_value, with_serial};
 
@@ -51,6 +53,8 @@ impl<T> Model for Entries<T> {
 }
 
 impl<T: Drop> Entries<T> {
+    ghost use Rattle.php_array.specs.Lends.{lends_value};
+
     /// An array without entries.
     pub fn new(alloc: Global) -> Entries<T>
         ensures { result ≡ no_entries }
@@ -86,6 +90,20 @@ impl<T: Drop> Entries<T> {
     {
         match find_stored(&self.index, &self.slots, key) {
             Some(stored) => Some(stored.value()),
+            None => None,
+        }
+    }
+
+    /// The value under a key, to be written. What is written there last is the value under the key
+    /// afterwards; nothing else changes.
+    pub fn get_mut(&mut self, key: &Key) -> Option<&mut T>
+        ensures* writes_back { sem 𝓛 (lends_value T.row self.entry key.now result) }
+        ensures value { option_copied_mut result ≡ value_at self.old key.now }
+        ensures sets { IsSome result → (v : T) →
+            set_value self.old key.now v ≡ Grown (with_value_under self.old key.now v) }
+    {
+        match find_live(&self.index, &self.slots, key) {
+            Some(place) => Some(self.slots[place].value_mut()),
             None => None,
         }
     }
