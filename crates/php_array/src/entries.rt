@@ -10,7 +10,9 @@ ghost use Rattle.php_array.specs.Answers.{unset_value, unappended_value, shown_e
 use crate::indexing::{find_live, find_stored, index_entry};
 use crate::key_index::KeyIndex;
 use crate::keys::{int_key, key_above, key_without, next_int, share_key};
-use crate::places::{next_stored, pop_stored, set_slot_value, slots_through, vacate};
+use crate::places::{
+    next_stored, pop_stored, set_slot_value, slots_through, slots_through_near, vacate,
+};
 use crate::refusal::{NoAppend, NoSet};
 use crate::repack::{make_room, settle};
 use crate::slot::{Slot, Stored};
@@ -102,10 +104,8 @@ impl<T: Drop> Entries<T> {
         ensures sets { IsSome result → (v : T) →
             set_value self.old key.now v ≡ Grown (with_value_under self.old key.now v) }
     {
-        match find_live(&self.index, &self.slots, key) {
-            Some(place) => Some(self.slots[place].value_mut()),
-            None => None,
-        }
+        let place = find_live(&self.index, &self.slots, key)?;
+        Some(self.slots[place].value_mut())
     }
 
     /// Puts another value in place of the one under a key, and gives that back. Where no entry has
@@ -223,6 +223,22 @@ impl<T: Drop> Entries<T> {
         let place = slots_through(&self.slots, serial).max(self.first);
         match next_stored(&self.slots, place) {
             Some((_, stored)) => Some(stored.shown()),
+            None => None,
+        }
+    }
+
+    /// As `entry_after`, for a walk that keeps the place of the entry it met last: the search tries
+    /// that place before any other, and then takes constant time. The place is set to that of the
+    /// entry that is answered. Any place is right, 0 at first; after a change it may be a poor one.
+    pub fn entry_after_near(&self, serial: u64, place: &mut usize) -> Option<(u64, &Key, &T)>
+        ensures { option_map shown_entry result ≡ entry_after self.now serial }
+    {
+        let from = slots_through_near(&self.slots, serial, *place).max(self.first);
+        match next_stored(&self.slots, from) {
+            Some((at, stored)) => {
+                *place = at;
+                Some(stored.shown())
+            }
             None => None,
         }
     }
