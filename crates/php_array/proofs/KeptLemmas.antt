@@ -1,10 +1,10 @@
 -- What the parts of an array keep through a change.
 use Rattle.std.proofs.Common.{◌≡◌, ◌<◌, ◌≤◌, ℕ, suc, ◌+◌, ◌-◌, List, [], ◌∷◌, ◌++◌, length, sym, ◌∙◌, ap, subst, arith, Some, None, length-append}
-use Rattle.std.specs.Prelude.{true, Option, option_map, find, is_some}
+use Rattle.std.specs.Prelude.{true, Option, option_map, find, is_some, slice_index_or, slice_set}
 use Rattle.php_value.specs.declared.key.Key.{Key}
 use Rattle.php_entries.specs.Keys.{key_eq, next_key_above, next_key_without}
 use Rattle.php_entries.specs.Listing.{Entry, Listing, entry_at, value_at, last_of, ENTRY_LIMIT, SERIAL_LIMIT, KEY_LIMIT}
-use Rattle.php_entries.specs.Changes.{Grown, with_value, without_key, without_last, set_value, remove_key, popped, pop_entry}
+use Rattle.php_entries.specs.Changes.{Grown, with_value, with_value_under, without_key, without_last, set_value, remove_key, popped, pop_entry}
 use Rattle.php_entries.specs.Soundness.{IsSound, IsKeyBelow, HasNoKey, AreKeysDistinct}
 use Rattle.php_entries.proofs.ChangeLemmas.{set_value-there}
 use Rattle.php_entries.proofs.KeyLemmas.{IsKeyBelow-next_key_above, next_key_above-up, next_key_above-within}
@@ -13,12 +13,13 @@ use Rattle.php_entries.proofs.SoundLemmas.{with_value-sound, remove_key-sound, p
 use Rattle.php_array.specs.Answers.{key_and_value, with_serial}
 use Rattle.php_array.specs.Index.{ForgetsKey, IsIndexed}
 use Rattle.php_array.specs.Kept.{listing_of, IsKept, IsRepacked}
-use Rattle.php_array.specs.Slots.{entry_of, entries_in, place_of, stored_at, vacated, with_value_at, AreHoles, HoldsSame}
+use Rattle.php_array.specs.Slots.{entry_of, entries_in, place_of, stored_at, vacated, revalued, with_value_at, AreHoles, HoldsSame}
 use Rattle.php_array.specs.declared.key_index.KeyIndex.{KeyIndex}
 use Rattle.php_array.specs.declared.slot.Slot.{Slot}
 use Rattle.php_array.specs.declared.slot.Slot.TheVariants.{Live}
 use Rattle.php_array.specs.declared.slot.Stored.{Stored}
 use Rattle.php_array.proofs.IndexLemmas.{IsIndexed-same, IsIndexed-vacated, IsIndexed-popped, IsIndexed-HoldsSame}
+use Rattle.php_array.proofs.PlaceLemmas.{slice_set-value}
 use Rattle.php_array.proofs.SlotLemmas as slot
 
 module _ {T : Type 0} (index : KeyIndex) (ss : List (Slot T)) (first count next_key next_serial : ℕ) (kept : IsKept index ss first count next_key next_serial) where
@@ -59,6 +60,20 @@ module _ {T : Type 0} (l : Listing T) (ss : List (Slot T)) (next_key next_serial
       set_value-there l v k (entry_of there.0) (entry_at-place i there.0 place there.1)
       ∙ ap (λ (m : Listing T). Grown (record m { entries = with_value k v m.entries })) (sym view)
       ∙ ap (λ (es : List (Entry T)). Grown (record { entries = es; next_key = next_key; next_serial = next_serial })) (sym (slot.entries_in-with_value_at k v ss i place))
+
+  -- a value that is written at a key's place is the value under the key
+  pub written-place : (i : ℕ) (d : Slot T) (v : T) → place_of k ss ≡ Some i → d ≡ slice_index_or ss i d → listing_of (slice_set ss i (revalued v d)) next_key next_serial ≡ with_value_under l k v
+  written-place i d v place is =
+      ap (λ (s : Slot T). listing_of (slice_set ss i (revalued v s)) next_key next_serial) is
+      ∙ ap (λ (new : List (Slot T)). listing_of new next_key next_serial) (slice_set-value i ss d v)
+      ∙ ap (λ (es : List (Entry T)). record { entries = es; next_key = next_key; next_serial = next_serial }) (slot.entries_in-with_value_at k v ss i place)
+      ∙ ap (λ (m : Listing T). with_value_under m k v) view
+
+  -- and setting the key does the same
+  pub set_value-written : (i : ℕ) (v : T) → place_of k ss ≡ Some i → set_value l k v ≡ Grown (with_value_under l k v)
+  set_value-written i v place =
+      let there = slot.place_of-stored k ss i place in
+      set_value-there l v k (entry_of there.0) (entry_at-place i there.0 place there.1)
 
 pub is_some-place : {T : Type 0} (k : Key) (ss : List (Slot T)) (i : ℕ) → place_of k ss ≡ Some i → is_some (stored_at i ss) ≡ true
 is_some-place k ss i place = ap is_some (slot.place_of-stored k ss i place).1

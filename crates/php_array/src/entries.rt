@@ -1,14 +1,18 @@
 // An array: entries in the order of their making, found by their keys.
-ghost use Rattle.std.specs.Prelude.{◌≡◌, ◌+◌, ◌-◌, ◌^◌, ◌<◌, ◌≤◌, ◌↔◌, min, IsTrue, IsOk, IfOk, IfErr, OnOk, OnErr, is_some, if◌then◌else◌, false, None, Some, Err, pos, option_copied, option_map, vec_len};
+ghost use Rattle.std.specs.Prelude.{◌≡◌, ◌+◌, ◌-◌, ◌^◌, ◌<◌, ◌≤◌, ◌↔◌, min, IsTrue, IsSome, IsOk, IfOk, IfErr, OnOk, OnErr, is_some, if◌then◌else◌, false, None, Some, Err, pos, option_copied, option_map, vec_len};
+ghost use Rattle.std.specs.Borrow.{sem};
+ghost use Rattle.std.specs.Option.{option_copied_mut};
 ghost use Rattle.php_entries.specs.Listing.{Listing, no_entries, count_of, entry_at, value_at, has_key, entry_after, last_of, is_at_limit};
-ghost use Rattle.php_entries.specs.Changes.{Grown, Full, Limit, with_entry, set_value, append_value, remove_key, pop_entry, with_values};
+ghost use Rattle.php_entries.specs.Changes.{Grown, Full, Limit, with_entry, with_value_under, set_value, append_value, remove_key, pop_entry, with_values};
 ghost use Rattle.php_entries.specs.Soundness.{IsSound};
 ghost use Rattle.php_array.specs.Answers.{unset_value, unappended_value, shown_entry, key_and_value, with_serial};
 
 use crate::indexing::{find_live, find_stored, index_entry};
 use crate::key_index::KeyIndex;
 use crate::keys::{int_key, key_above, key_without, next_int, share_key};
-use crate::places::{next_stored, pop_stored, set_slot_value, slots_through, vacate};
+use crate::places::{
+    next_stored, pop_stored, set_slot_value, slots_through, slots_through_near, vacate,
+};
 use crate::refusal::{NoAppend, NoSet};
 use crate::repack::{make_room, settle};
 use crate::slot::{Slot, Stored};
@@ -51,6 +55,8 @@ impl<T> Model for Entries<T> {
 }
 
 impl<T: Drop> Entries<T> {
+    ghost use Rattle.php_array.specs.Lends.{lends_value};
+
     /// An array without entries.
     pub fn new(alloc: Global) -> Entries<T>
         ensures { result ≡ no_entries }
@@ -88,6 +94,18 @@ impl<T: Drop> Entries<T> {
             Some(stored) => Some(stored.value()),
             None => None,
         }
+    }
+
+    /// The value under a key, to be written. What is written there last is the value under the key
+    /// afterwards; nothing else changes.
+    pub fn get_mut(&mut self, key: &Key) -> Option<&mut T>
+        ensures* writes_back { sem 𝓛 (lends_value T.row self.entry key.now result) }
+        ensures value { option_copied_mut result ≡ value_at self.old key.now }
+        ensures sets { IsSome result → (v : T) →
+            set_value self.old key.now v ≡ Grown (with_value_under self.old key.now v) }
+    {
+        let place = find_live(&self.index, &self.slots, key)?;
+        Some(self.slots[place].value_mut())
     }
 
     /// Puts another value in place of the one under a key, and gives that back. Where no entry has
@@ -205,6 +223,22 @@ impl<T: Drop> Entries<T> {
         let place = slots_through(&self.slots, serial).max(self.first);
         match next_stored(&self.slots, place) {
             Some((_, stored)) => Some(stored.shown()),
+            None => None,
+        }
+    }
+
+    /// As `entry_after`, for a walk that keeps the place of the entry it met last: the search tries
+    /// that place before any other, and then takes constant time. The place is set to that of the
+    /// entry that is answered. Any place is right, 0 at first; after a change it may be a poor one.
+    pub fn entry_after_near(&self, serial: u64, place: &mut usize) -> Option<(u64, &Key, &T)>
+        ensures { option_map shown_entry result ≡ entry_after self.now serial }
+    {
+        let from = slots_through_near(&self.slots, serial, *place).max(self.first);
+        match next_stored(&self.slots, from) {
+            Some((at, stored)) => {
+                *place = at;
+                Some(stored.shown())
+            }
             None => None,
         }
     }

@@ -155,3 +155,18 @@ pub fn slots_through<T>(slots: &Vec<Slot<T>>, serial: u64) -> usize
     }
     low
 }
+
+/// How many slots have at most this serial. A place is tried first, at which it is likely to stand.
+pub fn slots_through_near<T>(slots: &Vec<Slot<T>>, serial: u64, near: usize) -> usize
+    requires { (to : ℕ) × DoSerialsRise 0 slots.now.items to }
+    ensures within { result ≤ vec_len slots.now }
+    ensures through { (i : ℕ) → i < result → serial_at i slots.now.items ≤ serial }
+    ensures behind { (i : ℕ) → result ≤ i → i < vec_len slots.now →
+        serial < serial_at i slots.now.items }
+{
+    if near < slots.len() && slot_serial(slots, near) == serial {
+        near + 1
+    } else {
+        slots_through(slots, serial)
+    }
+}

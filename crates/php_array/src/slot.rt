@@ -1,5 +1,6 @@
 // The slots of an array, in the order in which their entries were made.
 ghost use Rattle.std.specs.Prelude.{◌≡◌, ◌<◌, IsSome, Some, option_copied, option_map, length};
+ghost use Rattle.std.specs.Borrow.{Lends, sem};
 
 use php_value::Key;
 use std::mem;
@@ -59,7 +60,8 @@ impl<T> Stored<T> {
 }
 
 impl<T> Slot<T> {
-    ghost use Rattle.php_array.specs.Slots.{serial_of, is_live, stored_in};
+    ghost use Rattle.php_array.specs.Slots.{serial_of, is_live, stored_in, revalued};
+    ghost use Rattle.php_array.specs.contracts.slot.Slot.{the_row};
 
     pub fn serial(&self) -> u64
         ensures { result ≡ serial_of self.now }
@@ -85,6 +87,18 @@ impl<T> Slot<T> {
         match self {
             Slot::Hole(_) => None,
             Slot::Live(stored) => Some(stored),
+        }
+    }
+    /// The value of the entry, to be written.
+    pub fn value_mut(&mut self) -> &mut T
+        requires { IsSome (stored_in self.old) }
+        ensures* writes_back { sem 𝓛
+            (Lends (the_row T.row) T.row self.entry result (λ v. revalued v self.old)) }
+        ensures value { option_map (λ e. e.value) (stored_in self.old) ≡ Some result.now }
+    {
+        match self {
+            Slot::Live(stored) => &mut stored.value,
+            Slot::Hole(_) => unreachable!(),
         }
     }
 }

@@ -17,7 +17,10 @@ pub fn count_key(tally: &mut Entries<u64>, key: Key, ledger: &mut Ledger) -> Res
         value_at tally.new q ≡ value_at tally.old q) }
     ensures err { OnErr result (tally.new ≡ tally.old) }
 {
-    let times = tally.get(&key).copied().unwrap_or(0).saturating_add(1);
-    tally.set(key, times, ledger)?;
-    Ok(times)
+    if let Some(times) = tally.get_mut(&key) {
+        *times = times.saturating_add(1);
+        return Ok(*times);
+    }
+    tally.set(key, 1, ledger)?;
+    Ok(1)
 }

@@ -52,6 +52,24 @@ fn popping_lowers_the_next_key(rt: HostRuntime) -> Result<(), Fail> {
     Ok(())
 }
 
+// What is written through `get_mut` stands at the entry's place; a key without an entry has none.
+#[test]
+fn a_value_is_written_in_place(rt: HostRuntime) -> Result<(), Fail> {
+    let mut ledger = Ledger { made: 0 };
+    let mut array = Entries::new(rt.alloc());
+    for number in 0..3u32 {
+        assert!(rt; array.append(number, &mut ledger).is_ok());
+    }
+    if let Some(value) = array.get_mut(&Key::Int(1)) {
+        *value = 50;
+    }
+    assert!(rt; array.get_mut(&Key::Int(3)).is_none());
+    assert_eq!(rt; shown(array.entry_after(1)), Some((2, 1, 50)));
+    assert_eq!(rt; array.pop(), Some((Key::Int(2), 2)));
+    assert_eq!(rt; ledger.made, 3);
+    Ok(())
+}
+
 #[test]
 fn callers_run(rt: HostRuntime) -> Result<(), Fail> {
     let mut ledger = Ledger { made: 0 };
@@ -96,14 +114,19 @@ fn walk(
 ) -> Result<(), Fail> {
     assert_eq!(rt; array.len(), plain.entries.len());
     let mut last = 0;
+    let mut place = 0;
     for (serial, name, value) in plain.entries.as_slice() {
-        let (met, key, number) = array.entry_after(last).ok_or("an entry is missing")?;
+        assert_eq!(rt; array.entry_after(last).map(|e| e.0), Some(*serial));
+        let (met, key, number) = array
+            .entry_after_near(last, &mut place)
+            .ok_or("an entry is missing")?;
         assert_eq!(rt; met, *serial);
         assert!(rt; *key == name.to_key(rt.alloc()).ok().ok_or("no memory")?);
         assert_eq!(rt; *number, *value);
         last = met;
     }
     assert!(rt; array.entry_after(last).is_none());
+    assert!(rt; array.entry_after_near(last, &mut place).is_none());
     Ok(())
 }
 
@@ -126,7 +149,7 @@ fn an_array_is_a_plain_list(rt: HostRuntime) -> Result<(), Fail> {
             Name::Letter(number as u8)
         };
         let key = name.to_key(rt.alloc()).ok().ok_or("no memory")?;
-        match (state >> 33) % 8 {
+        match (state >> 33) % 9 {
             0 | 1 => assert_eq!(rt;
                 array.append(value, &mut ledger).ok(),
                 Some(plain.append(value)?)
@@ -136,7 +159,15 @@ fn an_array_is_a_plain_list(rt: HostRuntime) -> Result<(), Fail> {
                 Some(plain.set(name, value)?)
             ),
             4 | 5 => assert_eq!(rt; array.remove(&key), plain.remove(name)),
-            6 => assert_eq!(rt; array.pop().map(|p| p.1), plain.pop().map(|p| p.1)),
+            6 => {
+                let held = plain.get(name).is_some();
+                assert_eq!(rt; array.get_mut(&key).is_some(), held);
+                if let Some(old) = array.get_mut(&key) {
+                    *old = value;
+                    plain.set(name, value)?;
+                }
+            }
+            7 => assert_eq!(rt; array.pop().map(|p| p.1), plain.pop().map(|p| p.1)),
             _ => walk(&rt, &array, &plain)?,
         }
     }

@@ -41,8 +41,12 @@ module _ {T : Type 0} where
   entry_added true l k v = Limit
   entry_added false l k v = Grown (with_entry l k v)
 
+  -- the array with another value under a key; where no entry has the key it stays as it is
+  abbrev pub with_value_under : Listing T → Key → T → Listing T
+  with_value_under l k v = record l { entries = with_value k v l.entries }
+
   abbrev pub value_set : Option (Entry T) → Listing T → Key → T → Growth T
-  value_set (Some e) l k v = Grown (record l { entries = with_value k v l.entries })
+  value_set (Some e) l k v = Grown (with_value_under l k v)
   value_set None l k v = entry_added (is_at_limit l) l k v
 
   abbrev pub value_appended : Bool → Listing T → T → Growth T
