@@ -15,8 +15,8 @@ use Rattle.php_lex_laws.proofs.HeredocLemmas.{and_last}
 use Rattle.php_lex_laws.proofs.RangeLemmas.{decide, same_byte, is_byte, and_left, and_right, both_hold, run_reaches, run_is, run_all, run_stops, behind_first}
 
 -- a number within the ints, or too large
-within_or : (line len n : ℕ) (P : Found → Type 0) → (n ≤ greatest_int → P (Ok (integer len (pos n) stay))) → (greatest_int < n → P (Err (Fail.IntTooLarge line))) → P (number_piece line (within_int len n))
-within_or line len n P fits large =
+pub numbers_within : (line len n : ℕ) (P : Found → Type 0) → (n ≤ greatest_int → P (Ok (integer len (pos n) stay))) → (greatest_int < n → P (Err (Fail.IntTooLarge line))) → P (number_piece line (within_int len n))
+numbers_within line len n P fits large =
     decide (nat_le n greatest_int) (λ h. rw h (fits (fits_in n h))) (λ h. rw h (large (too_large n h)))
   where
     fits_in : (n : ℕ) → nat_le n greatest_int ≡ true → n ≤ greatest_int
@@ -90,9 +90,6 @@ decimals_or line text k P some all float bad octal decimal =
 
     alone : (b k : ℕ) → 0 < k → b ≡ 48 → (b == 48 && nat_lt 1 k) ≡ false → k ≡ 1
     alone b k some is not = grind (arith, common_steps)
-
-pub numbers_within : (line len n : ℕ) (P : Found → Type 0) → (n ≤ greatest_int → P (Ok (integer len (pos n) stay))) → (greatest_int < n → P (Err (Fail.IntTooLarge line))) → P (number_piece line (within_int len n))
-numbers_within = within_or
 
 -- ---- what bars the other bases
 

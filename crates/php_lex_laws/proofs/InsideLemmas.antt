@@ -7,7 +7,8 @@ use Rattle.std.proofs.lemmas.List.Sums.{prefix_len-le-length}
 use Rattle.php_lex.specs.Bytes.{Text, run, is_octal_digit}
 use Rattle.php_lex.specs.Numbers.{value}
 use Rattle.php_lex.specs.Templates.{Delimiter, quote, stretch, escape, escaped_byte, scalar_escape, ends, begins_part, is_quote, text_len_from, text_len}
-use Rattle.php_lex_laws.specs.Ranges.{IsInside}
+use Rattle.php_lex_laws.specs.Escapes.{IsInside}
+use Rattle.php_lex_laws.proofs.EscapeLemmas.{unit_is, unit_there}
 use Rattle.php_lex_laws.proofs.RangeLemmas.{chosen, other, same_byte, and_left, and_right}
 
 is_some : (n : ℕ) → 0 < n → (n == 0) ≡ false
@@ -16,25 +17,32 @@ is_some n some = grind (arith, common_steps)
 is_none : (n : ℕ) → n ≡ 0 → (n == 0) ≡ true
 is_none n none = grind (arith, common_steps)
 
-pub inside_reaches : (left : ℕ) (by : Delimiter) (text : Text) (k : ℕ) → IsInside left by text k → k ≤ text_len_from left by text
-inside_reaches left by text zero inside = omega arith
-inside_reaches left by [] (suc k) inside = absurd inside
-inside_reaches (suc left) by (b ∷ text) (suc k) inside = omega (arith, inside_reaches left by text k inside)
-inside_reaches zero by (b ∷ text) (suc k) inside =
+-- text by its stretches
+abbrev IsRead : ℕ → Delimiter → Text → ℕ → Type 0
+IsRead left by text zero = left ≡ 0
+IsRead left by [] (suc k) = ⊥
+IsRead (suc left) by (b ∷ text) (suc k) = IsRead left by text k
+IsRead zero by (b ∷ text) (suc k) = (0 < (stretch by (b ∷ text)).0) × IsRead ((stretch by (b ∷ text)).0 - 1) by text k
+
+read_reaches : (left : ℕ) (by : Delimiter) (text : Text) (k : ℕ) → IsRead left by text k → k ≤ text_len_from left by text
+read_reaches left by text zero inside = omega arith
+read_reaches left by [] (suc k) inside = absurd inside
+read_reaches (suc left) by (b ∷ text) (suc k) inside = omega (arith, read_reaches left by text k inside)
+read_reaches zero by (b ∷ text) (suc k) inside =
     let len = (stretch by (b ∷ text)).0 in
     let here = other (len == 0) 0 (suc (text_len_from (len - 1) by text)) (is_some len inside.0) in
-    omega (arith, here, inside_reaches (len - 1) by text k inside.1)
+    omega (arith, here, read_reaches (len - 1) by text k inside.1)
 
-pub inside_is : (left : ℕ) (by : Delimiter) (text : Text) (k : ℕ) → IsInside left by text k → (stretch by (drop k text)).0 ≡ 0 → text_len_from left by text ≡ k
-inside_is left by [] zero inside stops = refl
-inside_is left by [] (suc k) inside stops = absurd inside
-inside_is (suc left) by (b ∷ text) zero inside stops = absurd (omega (arith, inside))
-inside_is zero by (b ∷ text) zero inside stops =
+read_is : (left : ℕ) (by : Delimiter) (text : Text) (k : ℕ) → IsRead left by text k → (stretch by (drop k text)).0 ≡ 0 → text_len_from left by text ≡ k
+read_is left by [] zero inside stops = refl
+read_is left by [] (suc k) inside stops = absurd inside
+read_is (suc left) by (b ∷ text) zero inside stops = absurd (omega (arith, inside))
+read_is zero by (b ∷ text) zero inside stops =
     let len = (stretch by (b ∷ text)).0 in chosen (len == 0) 0 (suc (text_len_from (len - 1) by text)) (is_none len stops)
-inside_is (suc left) by (b ∷ text) (suc k) inside stops = ap suc (inside_is left by text k inside stops)
-inside_is zero by (b ∷ text) (suc k) inside stops =
+read_is (suc left) by (b ∷ text) (suc k) inside stops = ap suc (read_is left by text k inside stops)
+read_is zero by (b ∷ text) (suc k) inside stops =
     let len = (stretch by (b ∷ text)).0 in
-    other (len == 0) 0 (suc (text_len_from (len - 1) by text)) (is_some len inside.0) ∙ ap suc (inside_is (len - 1) by text k inside.1 stops)
+    other (len == 0) 0 (suc (text_len_from (len - 1) by text)) (is_some len inside.0) ∙ ap suc (read_is (len - 1) by text k inside.1 stops)
 
 -- ---- an escape lies in the text
 
@@ -85,21 +93,21 @@ stretch_within by b text =
     (λ backslash. subst (λ c. (escape (is_quote by) (c ∷ text)).0 ≤ suc (length text)) (sym (same_byte b 92 backslash)) (escape_fits (is_quote by) text))
     (λ _. first_of_two (ends by (b ∷ text) || begins_part (b ∷ text)) _ _ (suc (length text)) (λ _. omega arith) (λ _. omega arith))
 
-pub inside_there : (left : ℕ) (by : Delimiter) (text : Text) → left ≤ length text → IsInside left by text (text_len_from left by text)
-inside_there zero by [] within = refl
-inside_there (suc left) by [] within = absurd (omega arith)
-inside_there (suc left) by (b ∷ text) within = inside_there left by text (omega arith)
-inside_there zero by (b ∷ text) within =
+read_there : (left : ℕ) (by : Delimiter) (text : Text) → left ≤ length text → IsRead left by text (text_len_from left by text)
+read_there zero by [] within = refl
+read_there (suc left) by [] within = absurd (omega arith)
+read_there (suc left) by (b ∷ text) within = read_there left by text (omega arith)
+read_there zero by (b ∷ text) within =
     let len = (stretch by (b ∷ text)).0 in
-    by_test (len == 0) refl (inside_there (len - 1) by text (omega (arith, stretch_within by b text)))
+    by_test (len == 0) refl (read_there (len - 1) by text (omega (arith, stretch_within by b text)))
   where
-    by_test : (v : Bool) → ((stretch by (b ∷ text)).0 == 0) ≡ v → IsInside ((stretch by (b ∷ text)).0 - 1) by text (text_len_from ((stretch by (b ∷ text)).0 - 1) by text)
-        → IsInside zero by (b ∷ text) (cond v 0 (suc (text_len_from ((stretch by (b ∷ text)).0 - 1) by text)))
+    by_test : (v : Bool) → ((stretch by (b ∷ text)).0 == 0) ≡ v → IsRead ((stretch by (b ∷ text)).0 - 1) by text (text_len_from ((stretch by (b ∷ text)).0 - 1) by text)
+        → IsRead zero by (b ∷ text) (cond v 0 (suc (text_len_from ((stretch by (b ∷ text)).0 - 1) by text)))
     by_test true none later = refl
     by_test false none later = (grind (arith, common_steps), later)
 
-pub inside_len : (by : Delimiter) (text : Text) → IsInside 0 by text (text_len by text)
-inside_len by text = inside_there 0 by text (omega arith)
+read_len : (by : Delimiter) (text : Text) → IsRead 0 by text (text_len by text)
+read_len by text = read_there 0 by text (omega arith)
 
 -- ---- what is no text
 
@@ -107,3 +115,29 @@ inside_len by text = inside_there 0 by text (omega arith)
 pub quote_stops : (text : Text) → slice_index text 0 ≡ 34 → (stretch quote text).0 ≡ 0
 unfolding stretch ends
 quote_stops text is = rw is refl
+
+-- ---- the same of bytes and escapes
+
+inside_read : (left : ℕ) (by : Delimiter) (text : Text) (k : ℕ) → IsInside left by text k → IsRead left by text k
+inside_read left by text zero inside = inside
+inside_read left by [] (suc k) inside = absurd inside
+inside_read (suc left) by (b ∷ text) (suc k) inside = inside_read left by text k inside
+inside_read zero by (b ∷ text) (suc k) inside =
+    let told = unit_is by (b ∷ text) inside.0 inside.1.0 in
+    (subst (λ m. 0 < m) (sym told.0) told.1, subst (λ m. IsRead (m - 1) by text k) (sym told.0) (inside_read (inside.0 - 1) by text k inside.1.1))
+
+read_inside : (left : ℕ) (by : Delimiter) (text : Text) (k : ℕ) → IsRead left by text k → IsInside left by text k
+read_inside left by text zero read = read
+read_inside left by [] (suc k) read = absurd read
+read_inside (suc left) by (b ∷ text) (suc k) read = read_inside left by text k read
+read_inside zero by (b ∷ text) (suc k) read =
+    ((stretch by (b ∷ text)).0, (unit_there by (b ∷ text) read.0, read_inside ((stretch by (b ∷ text)).0 - 1) by text k read.1))
+
+pub inside_reaches : (left : ℕ) (by : Delimiter) (text : Text) (k : ℕ) → IsInside left by text k → k ≤ text_len_from left by text
+inside_reaches left by text k inside = read_reaches left by text k (inside_read left by text k inside)
+
+pub inside_is : (left : ℕ) (by : Delimiter) (text : Text) (k : ℕ) → IsInside left by text k → (stretch by (drop k text)).0 ≡ 0 → text_len_from left by text ≡ k
+inside_is left by text k inside stops = read_is left by text k (inside_read left by text k inside) stops
+
+pub inside_len : (by : Delimiter) (text : Text) → IsInside 0 by text (text_len by text)
+inside_len by text = read_inside 0 by text (text_len by text) (read_len by text)

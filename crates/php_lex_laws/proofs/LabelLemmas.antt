@@ -8,7 +8,8 @@ use Rattle.php_lex.specs.Bytes.{Text, len_before}
 use Rattle.php_lex.specs.Modes.{heredoc, stay, enter}
 use Rattle.php_lex.specs.Pieces.{Found, one, labelled_piece, nowdoc, heredoc_piece}
 use Rattle.php_lex.specs.Templates.{label, is_label_line, closes, closing_len, text_len, text_value}
-use Rattle.php_lex_laws.specs.Ranges.{FirstAt, IsInside}
+use Rattle.php_lex_laws.specs.Escapes.{IsInside}
+use Rattle.php_lex_laws.specs.Ranges.{FirstAt}
 use Rattle.php_lex_laws.specs.ScriptForms.{Label, Opens, IsEmpty, name_of}
 use Rattle.php_lex_laws.proofs.HeredocLemmas.{label_stops}
 use Rattle.php_lex_laws.proofs.InsideLemmas.{inside_is, inside_len}

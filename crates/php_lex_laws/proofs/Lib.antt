@@ -1,4 +1,5 @@
 pub mod DigitLemmas
+pub mod EscapeLemmas
 pub mod ExampleParts
 pub mod Examples
 pub mod ExistenceLemmas

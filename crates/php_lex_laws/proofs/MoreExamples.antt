@@ -6,6 +6,7 @@ use Rattle.php_lex.specs.Bytes.{Text, is_gap, is_octal_digit, is_binary_digit}
 use Rattle.php_lex.specs.Modes.{script, quotes, heredoc, name_due, name_read, brace_due, subject, member_due, key_due, key_read}
 use Rattle.php_lex.specs.Comments as Comments
 use Rattle.php_lex.specs.Templates as Templates
+use Rattle.php_lex_laws.specs.Escapes.{IsEscape}
 use Rattle.php_lex_laws.specs.Longest.{IsPieceAt, IsNoPiece}
 use Rattle.php_lex_laws.specs.PartForms as part
 use Rattle.php_lex_laws.specs.ScriptFaults as fault
@@ -14,7 +15,8 @@ use Rattle.php_lex_laws.specs.TemplateForms as template
 use Rattle.php_lex_laws.proofs.InsideLemmas.{inside_len}
 use Rattle.php_lex_laws.proofs.LongestLemmas.{piece_at}
 use Rattle.php_lex_laws.proofs.RangeLemmas.{no_both, behind, run_all, before_none, name_there, raw_is}
-use Rattle.php_lex_laws.proofs.TemplateCases.{cut_is, scalar_some}
+use Rattle.php_lex_laws.proofs.TemplateCases.{cut_is}
+use Rattle.php_lex_laws.proofs.EscapeLemmas.{escape_has, scalar_some}
 use Rattle.php_lex_laws.proofs.ExampleParts.{read, less, some, newline}
 
 -- ---- in a template
@@ -55,6 +57,45 @@ unfolding read
 variable_part =
     let text : Text = codes "$a[0]" in
     piece_at (quotes 1) 1 text _ template.variable_part refl (refl, (1, (name_there text 1 (some refl), refl)))
+
+-- ---- escapes
+
+letter : IsEscape Templates.quote (codes "\\na") 2
+unfolding read
+letter = escape_has Templates.quote (codes "\\na") refl (some refl)
+
+quote_sign : IsEscape Templates.quote (codes "\\\"a") 2
+unfolding read
+quote_sign = escape_has Templates.quote (codes "\\\"a") refl (some refl)
+
+-- in a heredoc the backslash stays
+no_quote_sign : IsEscape (Templates.label (codes "E")) (codes "\\\"a") 1
+unfolding read
+no_quote_sign = escape_has (Templates.label (codes "E")) (codes "\\\"a") refl (some refl)
+
+octal_digits : IsEscape Templates.quote (codes "\\1018") 4
+unfolding read
+octal_digits = escape_has Templates.quote (codes "\\1018") refl (some refl)
+
+hexadecimal_digits : IsEscape Templates.quote (codes "\\X4g") 3
+unfolding read
+hexadecimal_digits = escape_has Templates.quote (codes "\\X4g") refl (some refl)
+
+no_hexadecimal_digits : IsEscape Templates.quote (codes "\\xg") 1
+unfolding read
+no_hexadecimal_digits = escape_has Templates.quote (codes "\\xg") refl (some refl)
+
+scalar : IsEscape Templates.quote (codes "\\u{10FFFF}a") 10
+unfolding read
+scalar = escape_has Templates.quote (codes "\\u{10FFFF}a") refl (some refl)
+
+brace : IsEscape Templates.quote (codes "\\{$a}") 2
+unfolding read
+brace = escape_has Templates.quote (codes "\\{$a}") refl (some refl)
+
+alone : IsEscape Templates.quote (codes "\\u") 1
+unfolding read
+alone = escape_has Templates.quote (codes "\\u") refl (some refl)
 
 -- ---- in a part
 

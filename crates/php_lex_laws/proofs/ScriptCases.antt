@@ -14,7 +14,8 @@ use Rattle.php_lex.specs.Pieces.{Found, nothing, one, written, end_tag, script_p
 use Rattle.php_lex.specs.Punctuators.{punctuator}
 use Rattle.php_lex.specs.Templates.{quote, text_len, text_value}
 use Rattle.php_lex.specs.Words.{word, cast}
-use Rattle.php_lex_laws.specs.Ranges.{FirstAt, IsRaw, IsInside}
+use Rattle.php_lex_laws.specs.Escapes.{IsInside}
+use Rattle.php_lex_laws.specs.Ranges.{FirstAt, IsRaw}
 use Rattle.php_lex_laws.proofs.InsideLemmas.{inside_len, byte_past}
 use Rattle.php_lex_laws.proofs.RangeLemmas.{decide, same_byte, is_over, is_positive, is_under, and_left, and_right, none_before, before_within, before_holds, before_none, behind, raw_there, raw_within}
 

@@ -92,7 +92,6 @@ Says failed found = found ≡ Err failed
 float_says : (line : ℕ) (text : Text) (k : ℕ) → 0 < k → AllIn is_ascii_digit text k → goes_on_as_float text k ≡ true → number_piece line (number text) ≡ Err (Fail.FloatLiteral line)
 float_says line text k some all float =
     let whole : fault.AllOf is_ascii_digit text k = (all, float_stops text k float) in
-    let P = Says (Fail.FloatLiteral line) in
     numbers_or line text (Says (Fail.FloatLiteral line)) (all 0 some)
     (λ n zero_first marked more digits. let mark = hexadecimal_mark text marked in
     absurd (no_both (goes_on_as_float text 1) (subst (λ m. goes_on_as_float text m ≡ true) (mark_short text k mark some all) float) mark.1))

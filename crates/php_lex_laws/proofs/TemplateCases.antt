@@ -1,19 +1,20 @@
 -- What stands in double quotes and in a heredoc.
-use Rattle.std.proofs.Common.{◌≡◌, ℕ, zero, suc, ◌+◌, ◌-◌, ◌<◌, ◌≤◌, Bool, true, false, ◌&&◌, ◌||◌, nat_lt, nat_le, cond, [], ◌∷◌, length, drop, take, Ok, Err, refl, sym, ap, ◌∙◌, arith}
+use Rattle.std.proofs.Common.{◌≡◌, ℕ, zero, suc, ◌+◌, ◌-◌, ◌<◌, ◌≤◌, Bool, true, false, ◌&&◌, ◌||◌, nat_lt, cond, [], ◌∷◌, length, drop, Ok, Err, refl, sym, ap, ◌∙◌, arith}
 use Rattle.std.specs.Prelude.{slice_index, ◌==◌}
 use Rattle.std.specs.Char.{is_ascii_hexdigit}
 use Rattle.std.proofs.lemmas.Grind.{common_steps}
 use Rattle.php_lex.specs.declared.fail.LexFail.TheVariants as Fail
 use Rattle.php_lex.specs.declared.kind.TokenKind.TheVariants as Kind
-use Rattle.php_lex.specs.Bytes.{Text, is_name_start, is_octal_digit, run}
+use Rattle.php_lex.specs.Bytes.{Text, is_name_start, run}
 use Rattle.php_lex.specs.Modes.{braces, name_due, stay, leave}
-use Rattle.php_lex.specs.Numbers.{value}
 use Rattle.php_lex.specs.Pieces.{Found, one, part_begin, variable_part, closing, part_piece, template_piece}
-use Rattle.php_lex.specs.Templates.{Delimiter, quote, label, stretch, escape, escaped_byte, scalar_escape, is_cut_escape, is_quote, ends, begins_part, closes, text_len, text_len_from, text_value}
+use Rattle.php_lex.specs.Templates.{Delimiter, quote, label, stretch, is_cut_escape, ends, begins_part, closes, text_len, text_len_from, text_value}
+use Rattle.php_lex_laws.specs.Escapes.{IsScalar}
 use Rattle.php_lex_laws.specs.TemplateForms as form
-use Rattle.php_lex_laws.proofs.HeredocLemmas.{and_last, label_stops, closes_line, line_byte}
+use Rattle.php_lex_laws.proofs.EscapeLemmas.{brace_no_digit}
+use Rattle.php_lex_laws.proofs.HeredocLemmas.{label_stops, closes_line, line_byte}
 use Rattle.php_lex_laws.proofs.InsideLemmas.{inside_is, quote_stops, byte_past}
-use Rattle.php_lex_laws.proofs.RangeLemmas.{no_both, other, decide, same_byte, is_byte, is_over, is_positive, is_under, and_left, and_right, both_hold, run_is, run_all, behind}
+use Rattle.php_lex_laws.proofs.RangeLemmas.{no_both, other, decide, same_byte, is_byte, is_over, is_under, and_left, both_hold, run_is, run_all, behind}
 
 -- ---- the case of a text
 
@@ -106,72 +107,6 @@ sign_no_end (label name) text no_quote no_line =
 
 -- ---- escapes
 
-zero_or : {A : Type 0} (v : Bool) (a b : ℕ × A) → 0 < a.0 → (cond v a b).0 ≡ 0 → (v ≡ false) × (b.0 ≡ 0)
-zero_or true a b some none = absurd (omega (arith, some, none))
-zero_or false a b some none = (refl, none)
-
-scalar_or : {A : Type 0} (v w : Bool) (scalar one two : ℕ × A) → 0 < one.0 → 0 < two.0 → (cond v scalar (cond w one two)).0 ≡ 0 → (v ≡ true) × (scalar.0 ≡ 0)
-scalar_or true w scalar one two more most none = (refl, none)
-scalar_or false true scalar one two more most none = absurd (omega (arith, more, none))
-scalar_or false false scalar one two more most none = absurd (omega (arith, most, none))
-
--- the one escape without a length is a malformed `\u{`
-pub escape_none : (in_quotes : Bool) (text : Text) → (escape in_quotes text).0 ≡ 0 → ((slice_index text 1 ≡ 117) × (slice_index text 2 ≡ 123)) × ((scalar_escape text).0 ≡ 0)
-unfolding escape
-escape_none in_quotes text none =
-    let c = slice_index text 1 in
-    let d = slice_index text 2 in
-    let first = zero_or (nat_lt 0 (escaped_byte c)) _ _ (omega arith) none in
-    let second = zero_or (in_quotes && c == 34) _ _ (omega arith) first.1 in
-    let third = zero_or (is_octal_digit c) _ _ (omega arith) second.1 in
-    let fourth = zero_or ((c == 120 || c == 88) && is_ascii_hexdigit d) _ _ (omega arith) third.1 in
-    let fifth = scalar_or (c == 117 && d == 123) (c == 123) _ _ _ (omega arith) (omega arith) fourth.1 in
-    ((same_byte c 117 (and_left (c == 117) (d == 123) fifth.0), same_byte d 123 (and_right (c == 117) (d == 123) fifth.0)), fifth.1)
-
-scalar_is : (in_quotes : Bool) (text : Text) → slice_index text 1 ≡ 117 → slice_index text 2 ≡ 123 → (escape in_quotes text).0 ≡ (scalar_escape text).0
-unfolding escape
-scalar_is true text second third = rw (second, third) refl
-scalar_is false text second third = rw (second, third) refl
-
-pub scalar_stretch : (by : Delimiter) (text : Text) → form.BeginsScalar text → (stretch by text).0 ≡ (scalar_escape text).0
-unfolding stretch
-scalar_stretch by text begins =
-    let first = begins.0 in
-    rw first (scalar_is (is_quote by) text begins.1.0 begins.1.1)
-
-pub backslash_stretch : (by : Delimiter) (text : Text) → slice_index text 0 ≡ 92 → (stretch by text).0 ≡ (escape (is_quote by) text).0
-unfolding stretch
-backslash_stretch by text first = rw first refl
-
-brace_no_digit : (b : ℕ) → b ≡ 125 → is_ascii_hexdigit b ≡ false
-brace_no_digit b is = grind (arith, common_steps)
-
-le_true : (m n : ℕ) → m ≤ n → nat_le m n ≡ true
-le_true m n h = grind (arith, common_steps)
-
-le_is : (m n : ℕ) → nat_le m n ≡ true → m ≤ n
-le_is m n h = grind (arith, common_steps)
-
--- a whole `\u{..}` has a length
-pub scalar_some : (text : Text) (k : ℕ) → form.IsScalar text k → 0 < (scalar_escape text).0
-unfolding scalar_escape
-scalar_some text k is =
-    let len : run is_ascii_hexdigit text 3 ≡ k = run_is is_ascii_hexdigit (drop 3 text) k refl is.1.0 (ap is_ascii_hexdigit (behind 3 text k) ∙ brace_no_digit (slice_index text (3 + k)) is.1.1.0) in
-    let positive = is_positive k is.0 in
-    let closes_it = is_byte (slice_index text (3 + k)) 125 is.1.1.0 in
-    let fits = le_true (value 16 (take k (drop 3 text))) 1114111 is.1.1.1 in
-    rw (len, positive, closes_it, fits) (omega arith)
-
-pub scalar_has : (text : Text) → ((k : ℕ) → form.IsScalar text k → ⊥) → (scalar_escape text).0 ≡ 0
-unfolding scalar_escape
-scalar_has text none =
-    let k = run is_ascii_hexdigit text 3 in
-    let n = value 16 (take k (drop 3 text)) in
-    decide (nat_lt 0 k && slice_index text (3 + k) == 125 && nat_le n 1114111)
-    (λ h. let parts = and_last (nat_lt 0 k) (slice_index text (3 + k) == 125) (nat_le n 1114111) h in
-    absurd (none k (is_over k parts.0, (run_all is_ascii_hexdigit (drop 3 text), (same_byte (slice_index text (3 + k)) 125 parts.1.0, le_is n 1114111 parts.1.1)))))
-    (λ h. rw h refl)
-
 past_end : (text : Text) (i : ℕ) → length text ≤ i → slice_index text i ≡ 0
 past_end [] i past = refl
 past_end (b ∷ text) zero past = absurd (omega arith)
@@ -187,7 +122,7 @@ pub cut_has : (text : Text) → is_cut_escape text ≡ true → form.IsCut text 
 cut_has text cut = (run_all is_ascii_hexdigit (drop 3 text), same_byte (length text) (3 + run is_ascii_hexdigit text 3) cut)
 
 -- a cut one is none
-pub cut_none : (text : Text) (k m : ℕ) → form.IsCut text k → form.IsScalar text m → ⊥
+pub cut_none : (text : Text) (k m : ℕ) → form.IsCut text k → IsScalar text m → ⊥
 cut_none text k m cut is =
     let closing_byte = is.1.1.0 in
     let within = byte_past text (3 + m) (omega (arith, closing_byte)) in

@@ -10,11 +10,13 @@ use Rattle.php_lex.specs.Bytes.{Text, is_name_start, is_name_byte, run, name_len
 use Rattle.php_lex.specs.Modes.{braces, name_due, stay, leave}
 use Rattle.php_lex.specs.Pieces.{Found, one, part_begin, template_piece, part_piece}
 use Rattle.php_lex.specs.Templates.{Delimiter, stretch, scalar_escape, is_cut_escape, is_quote, ends, text_value}
+use Rattle.php_lex_laws.specs.Escapes.{BeginsScalar, IsScalar}
 use Rattle.php_lex_laws.specs.TemplateForms as form
 use Rattle.php_lex_laws.proofs.DigitLemmas.{run_some}
+use Rattle.php_lex_laws.proofs.EscapeLemmas.{escape_none, scalar_stretch, backslash_stretch, scalar_some, scalar_has}
 use Rattle.php_lex_laws.proofs.InsideLemmas.{inside_reaches, inside_len}
 use Rattle.php_lex_laws.proofs.RangeLemmas.{no_both, chosen, same_byte, other_byte, is_byte, and_left, and_right, behind_first, name_reaches, name_there}
-use Rattle.php_lex_laws.proofs.TemplateCases.{template_or, part_or, ends_stops, part_stops, no_text, stretch_none, sign_no_end, escape_none, scalar_stretch, backslash_stretch, scalar_some, scalar_has, cut_is, cut_has, cut_none, part_begins, brace_begins, part_there, one_of, or_left, or_right}
+use Rattle.php_lex_laws.proofs.TemplateCases.{template_or, part_or, ends_stops, part_stops, no_text, stretch_none, sign_no_end, cut_is, cut_has, cut_none, part_begins, brace_begins, part_there, one_of, or_left, or_right}
 
 abbrev pub Reaches : Delimiter → ℕ → ℕ → form.TemplateForm → Text → ℕ → Found → Type 0
 Reaches by begun line f text n (Ok p) = (n ≤ p.len) × (n ≡ p.len → p ≡ form.template_given by f line text n)
@@ -98,7 +100,7 @@ template_reaches by begun line form.variable_part text n has = variable_reaches 
 abbrev Says : LexFail → Found → Type 0
 Says failed found = found ≡ Err failed
 
-scalar_stops : (by : Delimiter) (text : Text) → form.BeginsScalar text → ((k : ℕ) → form.IsScalar text k → ⊥) → (stretch by text).0 ≡ 0
+scalar_stops : (by : Delimiter) (text : Text) → BeginsScalar text → ((k : ℕ) → IsScalar text k → ⊥) → (stretch by text).0 ≡ 0
 scalar_stops by text begins none = scalar_stretch by text begins ∙ scalar_has text none
 
 pub template_faulty : (by : Delimiter) (begun line : ℕ) (e : form.TemplateFault) (text : Text) → form.IsNoTemplatePiece e text → template_piece by begun line text ≡ Err (form.template_fault e begun line)
@@ -125,7 +127,7 @@ template_faulty by begun line form.bad_escape text is =
 -- ---- what is there
 
 -- a malformed escape
-backslash_begins : (by : Delimiter) (text : Text) → (stretch by text).0 ≡ 0 → slice_index text 0 ≡ 92 → form.BeginsScalar text × ((k : ℕ) → form.IsScalar text k → ⊥)
+backslash_begins : (by : Delimiter) (text : Text) → (stretch by text).0 ≡ 0 → slice_index text 0 ≡ 92 → BeginsScalar text × ((k : ℕ) → IsScalar text k → ⊥)
 backslash_begins by text stops first =
     let told = escape_none (is_quote by) text (sym (backslash_stretch by text first) ∙ stops) in
     ((first, told.0), λ k whole. zero_over (scalar_escape text).0 (scalar_some text k whole) told.1)

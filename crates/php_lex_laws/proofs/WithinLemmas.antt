@@ -9,11 +9,12 @@ use Rattle.std.proofs.lemmas.Slice.Eq.{bytes_eq-Decides}
 use Rattle.php_lex.specs.Bytes.{Text, is_blank, is_octal_digit, is_binary_digit, newline_len, line_end_len}
 use Rattle.php_lex.specs.Comments.{ends_block, begins_echo}
 use Rattle.php_lex.specs.Modes.{Mode, outside, script, quotes, heredoc, braces, block, name_due, name_read, brackets, index, brace_due, subject, member_due, key_due, key_read}
-use Rattle.php_lex.specs.Templates.{Delimiter, quote, label, stretch, ends, ends_line, is_label_line, closes, closing_len}
+use Rattle.php_lex.specs.Templates.{Delimiter, quote, label, ends, ends_line, is_label_line, closes, closing_len}
 use Rattle.php_lex_laws.specs.Longest.{Form, HasForm}
 use Rattle.php_lex_laws.specs.OutsideForms as outer
 use Rattle.php_lex_laws.specs.PartForms as part
-use Rattle.php_lex_laws.specs.Ranges.{AllIn, IsName, IsInside}
+use Rattle.php_lex_laws.specs.Escapes.{IsInside}
+use Rattle.php_lex_laws.specs.Ranges.{AllIn, IsName}
 use Rattle.php_lex_laws.specs.ScriptForms as form
 use Rattle.php_lex_laws.specs.TemplateForms as template
 use Rattle.php_lex_laws.proofs.InsideLemmas.{byte_past}
@@ -161,7 +162,7 @@ inside_within : (left : ℕ) (by : Delimiter) (text : Text) (k : ℕ) → IsInsi
 inside_within left by text zero inside = omega arith
 inside_within left by [] (suc k) inside = absurd inside
 inside_within (suc left) by (b ∷ text) (suc k) inside = omega (arith, inside_within left by text k inside)
-inside_within zero by (b ∷ text) (suc k) inside = omega (arith, inside_within ((stretch by (b ∷ text)).0 - 1) by text k inside.1)
+inside_within zero by (b ∷ text) (suc k) inside = omega (arith, inside_within (inside.0 - 1) by text k inside.1.1)
 
 template_within : (by : Delimiter) (f : template.TemplateForm) (text : Text) (n : ℕ) → template.HasTemplateForm by f text n → Lies text n
 unfolding ends

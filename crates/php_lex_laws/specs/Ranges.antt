@@ -1,7 +1,6 @@
 -- What the first bytes of a text are.
-use Rattle.std.specs.Prelude.{◌≡◌, [], ◌∷◌, ℕ, zero, suc, ◌-◌, ◌<◌, Bool, true, false, ◌==◌, drop, slice_index}
+use Rattle.std.specs.Prelude.{◌≡◌, [], ◌∷◌, ℕ, zero, suc, ◌<◌, Bool, true, false, ◌==◌, drop, slice_index}
 use Rattle.php_lex.specs.Bytes.{Text, is_name_start, is_name_byte}
-use Rattle.php_lex.specs.Templates.{Delimiter, stretch}
 
 -- the first k bytes are of a class
 abbrev pub AllIn : (ℕ → Bool) → Text → ℕ → Type 0
@@ -26,11 +25,3 @@ IsRaw is_escaped text zero = is_escaped ≡ false
 IsRaw is_escaped [] (suc k) = ⊥
 IsRaw true (b ∷ text) (suc k) = IsRaw false text k
 IsRaw false (b ∷ text) (suc k) = ((b == 39) ≡ false) × IsRaw (b == 92) text k
-
--- The first k bytes are text of a template, byte for byte and escape for escape. The first number counts the bytes that
--- are left of an escape.
-abbrev pub IsInside : ℕ → Delimiter → Text → ℕ → Type 0
-IsInside left by text zero = left ≡ 0
-IsInside left by [] (suc k) = ⊥
-IsInside (suc left) by (b ∷ text) (suc k) = IsInside left by text k
-IsInside zero by (b ∷ text) (suc k) = (0 < (stretch by (b ∷ text)).0) × IsInside ((stretch by (b ∷ text)).0 - 1) by text k

@@ -16,7 +16,8 @@ use Rattle.php_lex.specs.Pieces.{Piece, nothing, one, written, integer, part_end
 use Rattle.php_lex.specs.Punctuators.{punctuators}
 use Rattle.php_lex.specs.Templates.{quote, label, is_label_line, closes, closing_len, text_value}
 use Rattle.php_lex.specs.Words.{cast_words, look_up, word_kind}
-use Rattle.php_lex_laws.specs.Ranges.{AllIn, NoneAt, FirstAt, IsName, IsRaw, IsInside}
+use Rattle.php_lex_laws.specs.Escapes.{IsInside}
+use Rattle.php_lex_laws.specs.Ranges.{AllIn, NoneAt, FirstAt, IsName, IsRaw}
 
 -- Where a heredoc's label stands: the quote around it or 0, its first byte, its length, and the first byte behind its line.
 pub record Label : Type 0 where

@@ -1,15 +1,15 @@
 -- The forms that a piece of double quotes or of a heredoc may have.
-use Rattle.std.specs.Prelude.{◌≡◌, ℕ, ◌+◌, ◌-◌, ◌<◌, ◌≤◌, true, false, if◌then◌else◌, [], length, take, drop, slice_index, Some}
+use Rattle.std.specs.Prelude.{◌≡◌, ℕ, ◌+◌, ◌-◌, ◌<◌, true, false, if◌then◌else◌, [], length, take, drop, slice_index, Some}
 use Rattle.std.specs.Char.{is_ascii_hexdigit}
 use Rattle.php_lex.specs.declared.fail.LexFail.{LexFail}
 use Rattle.php_lex.specs.declared.fail.LexFail.TheVariants as Fail
 use Rattle.php_lex.specs.declared.kind.TokenKind.TheVariants as Kind
 use Rattle.php_lex.specs.Bytes.{Text}
 use Rattle.php_lex.specs.Modes.{braces, name_due, subject, stay, enter, leave}
-use Rattle.php_lex.specs.Numbers.{value}
 use Rattle.php_lex.specs.Pieces.{Piece, draft, one, part_begin, goes_on, closing}
 use Rattle.php_lex.specs.Templates.{Delimiter, ends, text_value}
-use Rattle.php_lex_laws.specs.Ranges.{AllIn, IsName, IsInside}
+use Rattle.php_lex_laws.specs.Escapes.{BeginsScalar, IsScalar, IsInside}
+use Rattle.php_lex_laws.specs.Ranges.{AllIn, IsName}
 
 pub data TemplateForm : Type 0 where
   template_text : TemplateForm
@@ -49,15 +49,6 @@ template_given by variable_part line text n = variable_given line text n
 pub data TemplateFault : Type 0 where
   cut_escape : TemplateFault
   bad_escape : TemplateFault
-
--- `\u{`
-abbrev pub BeginsScalar : Text → Type 0
-BeginsScalar text = (slice_index text 0 ≡ 92) × ((slice_index text 1 ≡ 117) × (slice_index text 2 ≡ 123))
-
--- k hexadecimal digits of a number up to 10FFFF, and `}`
-abbrev pub IsScalar : Text → ℕ → Type 0
-IsScalar text k =
-    (0 < k) × (AllIn is_ascii_hexdigit (drop 3 text) k × ((slice_index text (3 + k) ≡ 125) × (value 16 (take k (drop 3 text)) ≤ 1114111)))
 
 -- k hexadecimal digits up to the end of the file
 abbrev pub IsCut : Text → ℕ → Type 0
