@@ -32,7 +32,7 @@ fn main(rt: HostRuntime) -> io::Result<()> {
         "bytes an entry beside the value: {packed} where a key tells its place, else {hashed}"
     )?;
     println!(rt;
-        "entries append in_order random overwrite pop_front pop_back pop_random iterate text_keys"
+        "entries append in_order random overwrite pop_front pop_back pop_random plain_random iterate text_keys"
     )?;
     let small = measure(&rt, SMALL, OPERATIONS / SMALL)?;
     print_figures(&rt, &small)?;
@@ -53,19 +53,20 @@ fn hundredths(small: u64, large: u64) -> u64 {
 
 fn print_ratios(rt: &impl Print, small: &Figures, large: &Figures) -> io::Result<()> {
     println!(rt;
-        "{LARGE} to {SMALL} in hundredths: append {} overwrite {} pop_front {} pop_back {} pop_random {} iterate {}",
+        "{LARGE} to {SMALL} in hundredths: append {} overwrite {} pop_front {} pop_back {} pop_random {} plain_random {} iterate {}",
         hundredths(small.append, large.append),
         hundredths(small.overwrite, large.overwrite),
         hundredths(small.front, large.front),
         hundredths(small.back, large.back),
         hundredths(small.anywhere, large.anywhere),
+        hundredths(small.plain, large.plain),
         hundredths(small.iterate, large.iterate)
     )
 }
 
 fn print_figures(rt: &impl Print, figures: &Figures) -> io::Result<()> {
     println!(rt;
-        "{} {} {} {} {} {} {} {} {} {}",
+        "{} {} {} {} {} {} {} {} {} {} {}",
         figures.entries,
         figures.append,
         figures.in_order,
@@ -74,6 +75,7 @@ fn print_figures(rt: &impl Print, figures: &Figures) -> io::Result<()> {
         figures.front,
         figures.back,
         figures.anywhere,
+        figures.plain,
         figures.iterate,
         figures.texts
     )

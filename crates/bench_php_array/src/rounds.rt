@@ -17,18 +17,24 @@ pub struct Figures {
     pub front: u64,
     pub back: u64,
     pub anywhere: u64,
+    /// Elements as large as a slot, taken out of a plain vector in the same scattered order.
+    pub plain: u64,
     pub iterate: u64,
     pub texts: u64,
     /// The sum of all values that were read, so that no read is left out.
     pub sum: u64,
 }
 
-/// A key among the first `entries`, so that each of them comes once while `turn` goes through them.
-fn scattered(turn: u32, entries: u32) -> Key {
-    let place = (u64::from(turn) * 7919)
+/// A number below `entries`, so that each of them comes once while `turn` goes through them.
+fn scattered_place(turn: u32, entries: u32) -> u64 {
+    (u64::from(turn) * 7919)
         .checked_rem(u64::from(entries))
-        .unwrap_or(0);
-    Key::Int(i64::try_from(place).unwrap_or(0))
+        .unwrap_or(0)
+}
+
+/// A key among the first `entries`, in the same order.
+fn scattered(turn: u32, entries: u32) -> Key {
+    Key::Int(i64::try_from(scattered_place(turn, entries)).unwrap_or(0))
 }
 
 fn nanoseconds(rt: &impl Clock, start: &Instant) -> io::Result<u64> {
@@ -122,6 +128,26 @@ fn remove(rt: &(impl Clock + Alloc<A = Global>), figures: &mut Figures) -> io::R
     Ok(())
 }
 
+/// What a scattered order costs by itself.
+fn take_plain(rt: &(impl Clock + Alloc<A = Global>), figures: &mut Figures) -> io::Result<()> {
+    let mut plain = Vec::new(rt.alloc());
+    for number in 0..figures.entries {
+        let serial = u64::from(number) + 1;
+        plain.push(Some((serial, Key::Int(i64::from(number)), number)))?;
+    }
+    let start = Instant::now(rt)?;
+    for turn in 0..figures.entries {
+        let place = scattered_place(turn, figures.entries) as usize;
+        if let Some(element) = plain.get_mut(place) {
+            if let Some((_, _, value)) = element.take() {
+                figures.sum = figures.sum.wrapping_add(u64::from(value));
+            }
+        }
+    }
+    figures.plain = figures.plain.saturating_add(nanoseconds(rt, &start)?);
+    Ok(())
+}
+
 fn text_key(alloc: Global, number: u32) -> io::Result<Key> {
     let name = format!(in alloc; "key{number}")?;
     match Text::from_bytes(alloc, name.as_bytes()) {
@@ -168,6 +194,7 @@ pub fn measure(
         front: 0,
         back: 0,
         anywhere: 0,
+        plain: 0,
         iterate: 0,
         texts: 0,
         sum: 0,
@@ -179,6 +206,7 @@ pub fn measure(
         overwrite(rt, &mut array, &mut figures)?;
         iterate(rt, &array, &mut figures)?;
         remove(rt, &mut figures)?;
+        take_plain(rt, &mut figures)?;
         read_texts(rt, &mut figures)?;
     }
     figures.append = each(figures.append, entries, rounds);
@@ -188,6 +216,7 @@ pub fn measure(
     figures.front = each(figures.front, entries, rounds);
     figures.back = each(figures.back, entries, rounds);
     figures.anywhere = each(figures.anywhere, entries, rounds);
+    figures.plain = each(figures.plain, entries, rounds);
     figures.iterate = each(figures.iterate, entries, rounds);
     figures.texts = each(figures.texts, entries, rounds);
     Ok(figures)

@@ -256,7 +256,7 @@ impl<T: Drop> Entries<T> {
     {
         let made = values.len() as u64;
         let mut copy = Entries::new(*self.slots.allocator());
-        let mut place = 0;
+        let mut place = self.first;
         for value in values {
             let Some((at, stored)) = next_stored(&self.slots, place) else {
                 unreachable!();

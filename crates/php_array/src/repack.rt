@@ -36,12 +36,15 @@ fn drop_front<T: Drop>(slots: &mut Vec<Slot<T>>, first: usize)
     slots.truncate(left);
 }
 
-/// Gives each key a place in a map.
-fn hash_index<T>(index: &mut KeyIndex, slots: &Vec<Slot<T>>) -> Result<(), NoMemory>
+/// Gives each key a place in a map, where the holes in front are fewer than all other slots.
+fn hash_index<T>(index: &mut KeyIndex, slots: &Vec<Slot<T>>, first: usize) -> Result<(), NoMemory>
     requires distinct { AreKeysDistinct (entries_in slots.now.items) }
     requires indexed { IsIndexed index.old slots.now.items }
     ensures { IsIndexed index.new slots.now.items }
 {
+    if first >= slots.len() / 2 {
+        return Ok(());
+    }
     if let KeyIndex::Packed(_) = index {
         *index = KeyIndex::Hashed(collect_places(slots)?);
     }
@@ -70,8 +73,20 @@ fn compact<T: Drop>(index: &mut KeyIndex, slots: &mut Vec<Slot<T>>, first: usize
     }
 }
 
+/// Drops all holes where a map tells the places. Where the keys tell them, holes stay until the room
+/// is used up: nothing else waits for it, and moving the slots costs a pass over them.
+fn compact_mapped<T: Drop>(index: &mut KeyIndex, slots: &mut Vec<Slot<T>>, first: usize) -> usize
+    requires { IsStored index.old slots.old.items first }
+    ensures { IsRepacked slots.old.items slots.new.items index.new result }
+{
+    if let KeyIndex::Packed(_) = index {
+        return first;
+    }
+    compact(index, slots, first)
+}
+
 /// Drops the holes behind the last entry and goes on over those in front, after an entry was taken
-/// out. Where most slots are holes by now, they are packed anew.
+/// out. Where a map tells the places and most slots are holes by now, they are packed anew.
 pub fn settle<T: Drop>(
     index: &mut KeyIndex,
     slots: &mut Vec<Slot<T>>,
@@ -86,14 +101,15 @@ pub fn settle<T: Drop>(
     trim(slots);
     let first = skip_holes(slots, first.min(slots.len()));
     if is_sparse(slots.len(), count) {
-        compact(index, slots, first)
+        compact_mapped(index, slots, first)
     } else {
         first
     }
 }
 
-/// Drops all holes, whatever the index was. Answers `NoMemory` where the index needs a map and gets
-/// none; then nothing has changed.
+/// Drops holes, whatever the index was: those in front where they are most of the slots and keys tell
+/// their places, else all. Answers `NoMemory` where the index needs a map and gets none; then nothing
+/// has changed.
 fn compact_all<T: Drop>(
     index: &mut KeyIndex,
     slots: &mut Vec<Slot<T>>,
@@ -104,7 +120,7 @@ fn compact_all<T: Drop>(
     ensures err { OnErr result (slots.new.items ≡ slots.old.items) }
     ensures err_index { OnErr result (IsIndexed index.new slots.new.items) }
 {
-    hash_index(index, slots)?;
+    hash_index(index, slots, first)?;
     Ok(compact(index, slots, first))
 }
 

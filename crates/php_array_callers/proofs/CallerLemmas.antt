@@ -1,12 +1,12 @@
 -- What a caller learns from the definition of ordered entries.
-use Rattle.std.proofs.Common.{◌≡◌, ◌<◌, ◌⊎◌, inl, inr, ℕ, zero, suc, ◌+◌, List, [], ◌∷◌, ◌++◌, length, drop, replicate, refl, sym, ◌∙◌, ap, subst, arith, Some, None}
+use Rattle.std.proofs.Common.{◌≡◌, inl, inr, ℕ, List, [], ◌∷◌, ◌++◌, length, drop, replicate, refl, sym, ◌∙◌, ap, Some, None}
 use Rattle.std.specs.Prelude.{Bool, true, false, cond, Option, option_map, find, nat_lt, pos, Result, Ok, Err, IfOk}
 use Rattle.std.proofs.lemmas.Bool.{cases_Bool, lt-ltb}
 use Rattle.php_value.specs.declared.key.Key.{Key}
 use Rattle.php_value.specs.declared.key.Key.TheVariants.{Int}
 use Rattle.php_entries.specs.Keys.{key_eq}
 use Rattle.php_entries.specs.Listing.{Entry, Listing, entry_at, value_at, entry_after, is_full, is_at_limit}
-use Rattle.php_entries.specs.Changes.{Growth, Grown, Full, Limit, with_entry, with_value, without_key, value_set, entry_added, value_appended, set_value, append_value, remove_key, with_values, entries_with, map_entries, map_listing}
+use Rattle.php_entries.specs.Changes.{Grown, with_entry, with_value, without_key, value_set, entry_added, value_appended, set_value, append_value, remove_key, with_values, entries_with, map_entries, map_listing}
 use Rattle.php_entries.specs.Soundness.{IsSound, DoSerialsRise}
 use Rattle.php_entries.proofs.KeyLemmas.{key_eq-true, key_eq-self, key_eq-sym_false}
 

@@ -1,5 +1,4 @@
-use Rattle.std.proofs.Common.{◌≡◌, ◌∙◌, sym, ap}
-use Rattle.php_value.specs.declared.key.Key.{Key}
+use Rattle.std.proofs.Common.{◌∙◌, sym, ap}
 use Rattle.php_entries.specs.Listing.{Listing}
 use Rattle.php_entries.specs.Changes.{remove_key}
 use Rattle.php_array_callers.proofs.CallerLemmas.{remove_key-first}

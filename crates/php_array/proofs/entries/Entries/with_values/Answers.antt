@@ -9,6 +9,7 @@ use Rattle.php_array.specs.Kept.{listing_of}
 use Rattle.php_array.specs.Slots.{entries_in, entry_of}
 use Rattle.php_array.proofs.CopyLemmas.{drop-next, entries_with-push, length-entries_with, copied-absent, copied-kept, copied-after, length-drop_none, length-taken, push-taken, all-taken, rise-next, drop-push, entries_with-no_values}
 use Rattle.php_array.proofs.PlaceLemmas.{stored-within}
+use Rattle.php_array.proofs.RepackLemmas.{drop-entries}
 use Rattle.php_array.proofs.entries.Entries.with_values.Goals as goal
 
 pub loop-value-init : goal.loop-value-init
@@ -18,7 +19,7 @@ loop-value-init g c =
     let sound = c.self.invariant.sound in
     record {
       values = c.into_iter-value-iterator.ensures.into_iter_gives.0;
-      rest = refl;
+      rest = drop-entries c.self.inside.first c.self.inside.slots.items c.self.invariant.front;
       copied = ap (λ (m : Listing _). m.entries) c.new-copy.ensures ∙ entries_with-no_values es;
       last = (0, (ap (λ (m : Listing _). m.next_serial) c.new-copy.ensures, ((let some = sound.some_serial in omega arith), sound.serials_rise)));
     }
