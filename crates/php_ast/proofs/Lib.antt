@@ -41,3 +41,5 @@ mod Shifts
 mod StatementShifts
 mod StatementTrace
 mod StatementTraceBack
+mod DeclarationShifts
+mod SignatureTrace
