@@ -43,3 +43,4 @@ mod StatementTrace
 mod StatementTraceBack
 mod DeclarationShifts
 mod SignatureTrace
+mod FunctionTrace
