@@ -44,3 +44,4 @@ mod StatementTraceBack
 mod DeclarationShifts
 mod SignatureTrace
 mod FunctionTrace
+mod MemberTrace
