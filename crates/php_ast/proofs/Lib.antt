@@ -45,3 +45,7 @@ mod StatementShifts
 mod StatementTrace
 mod StatementTraceBack
 mod PrintStatementWeights
+mod DeclarationShifts
+mod SignatureTrace
+mod FunctionTrace
+mod MemberTrace

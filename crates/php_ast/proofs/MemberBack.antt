@@ -96,7 +96,7 @@ origin_read r (Some n) (tree.named note text) w h = refl
 origin_read r (Some n) (tree.reserved note k) w h = refl
 origin_read r (Some n) (tree.held note text) w h = absurd h
 
-no_visibility : (k : Keyword) → is_visibility k ≡ false → visibility_of_keyword k ≡ None
+pub no_visibility : (k : Keyword) → is_visibility k ≡ false → visibility_of_keyword k ≡ None
 no_visibility word.Public h = cc
 no_visibility word.Protected h = cc
 no_visibility word.Private h = cc
@@ -136,7 +136,7 @@ rule_read r (prefers note origin m empty) w h = let x : true ≡ false = h.1 in 
 rule_read r (prefers note origin m (then_also xs x)) w h =
     instead_read r origin m (commas spell_name (then_also xs x) (punct mark.Semicolon ∷ w)) h.0 ∙ names_led (of_instead r origin m) xs x (punct mark.Semicolon ∷ w)
 
-abbrev rules_of : Names → Sequence (Rule Nothing) → Rules
+abbrev pub rules_of : Names → Sequence (Rule Nothing) → Rules
 rules_of traits rules = record { traits = traits; rules = rules }
 
 rules_read : (traits : Names) (rules : Sequence (Rule Nothing)) (w : List Symbol) → Each IsProperRule rules → run (due_rule (rules_of traits empty)) (joined spell_rule rules w) ≡ run (due_rule (rules_of traits rules)) w
@@ -145,10 +145,10 @@ rules_read traits (then_also rules rule) w h = rules_read traits rules (spell_ru
 
 -- ---- constants
 
-abbrev Constants : Type 0
+abbrev pub Constants : Type 0
 Constants = Sequence (ClassConstant Nothing)
 
-abbrev constant_reader : Modifiers → Constants → Word → Reader MemberState advance_member
+abbrev pub constant_reader : Modifiers → Constants → Word → Reader MemberState advance_member
 constant_reader ms xs n = record { on = λ m. in_constant ms xs n m; ended = λ t e. constant_end ms (with_constant xs n e) (ending t); steps = λ m t. refl }
 
 constant_named : (ms : Modifiers) (xs : Constants) (n : Word) (w : List Symbol) → IsWord n → run (due_constant ms xs) (spell_member_name n w) ≡ run (past_constant ms xs n) w
@@ -173,10 +173,10 @@ constants_led ms (then_also xs y) c w h = constants_led ms xs y (punct mark.Comm
 
 -- ---- properties
 
-abbrev Properties : Type 0
+abbrev pub Properties : Type 0
 Properties = Sequence (Variable Nothing)
 
-abbrev property_reader : Modifiers → Properties → Name Nothing → Reader MemberState advance_member
+abbrev pub property_reader : Modifiers → Properties → Name Nothing → Reader MemberState advance_member
 property_reader ms xs n = record { on = λ m. in_property ms xs n m; ended = λ t e. property_end ms (with_property xs n (Some e)) (ending t); steps = λ m t. refl }
 
 property_comma : (ms : Modifiers) (xs : Properties) (n : Name Nothing) (value : Option Form) (w : List Symbol) → IfAny value
@@ -200,17 +200,17 @@ properties_led ms m (then_also xs y) x w h =
 abbrev method_in : Modifiers → Wraps (FunctionState Word) MemberState (Routine Word) (Member Nothing) (advance_function method_form) (halt_function method_form) advance_member halt_member
 method_in ms = record { on = λ m. in_method ms m; whole = method_of ms; steps = λ m t. refl; halts = λ m w. refl }
 
-method_word : (n : Word) → IsWord n → word_of (member_symbol n) ≡ Some n
+pub method_word : (n : Word) → IsWord n → word_of (member_symbol n) ≡ Some n
 method_word (tree.named note text) h = refl
 method_word (tree.reserved note k) h = refl
 method_word (tree.held note text) h = absurd h
 
-word_no_ampersand : (n : Word) → is_ampersand (member_symbol n) ≡ false
+pub word_no_ampersand : (n : Word) → is_ampersand (member_symbol n) ≡ false
 word_no_ampersand (tree.named note text) = refl
 word_no_ampersand (tree.reserved note k) = refl
 word_no_ampersand (tree.held note text) = refl
 
-may_lack : (body : Option (Statements Nothing)) → MayLack method_form body
+pub may_lack : (body : Option (Statements Nothing)) → MayLack method_form body
 may_lack None = refl
 may_lack (Some body) = tt
 
