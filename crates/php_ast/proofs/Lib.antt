@@ -45,3 +45,4 @@ mod DeclarationShifts
 mod SignatureTrace
 mod FunctionTrace
 mod MemberTrace
+mod ScriptTrace
