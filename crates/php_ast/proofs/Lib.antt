@@ -46,3 +46,6 @@ mod SignatureTrace
 mod FunctionTrace
 mod MemberTrace
 mod ScriptTrace
+mod PrintWeights
+mod PrintLists
+mod PrintViews

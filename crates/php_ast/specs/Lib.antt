@@ -38,3 +38,6 @@ pub mod ScriptMachine
 pub mod DeclarationDepth
 pub mod DeclarationLaws
 pub mod StatementView
+pub mod Print
+pub mod PrintParts
+pub mod PrintElements

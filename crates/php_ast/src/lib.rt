@@ -6,6 +6,11 @@ mod expression;
 pub mod laws;
 mod operator;
 mod power;
+mod print;
+mod print_expression;
+mod print_signs;
+mod printed;
+mod printer;
 mod script;
 mod spot;
 mod statement;
@@ -18,6 +23,8 @@ pub use expression::{Argument, Class, ClassStep, Expr, Item, Link, Member, Named
 pub use operator::{ArrayForm, Assign, Binary, Count, Magic, Prefix};
 pub use php_first_tree as first_path;
 pub use power::{Grouping, Row, prefix_power_of, row_of};
+pub use print::print_expr;
+pub use printed::Printed;
 pub use script::{Script, ScriptItem};
 pub use spot::{Name, Spot, Word};
 pub use statement::{

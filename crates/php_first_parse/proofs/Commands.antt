@@ -1,24 +1,20 @@
 -- What is known of each statement that was read, or can't be.
 use Rattle.std.proofs.Common.{◌≡◌, ◌≢◌, ℕ, Some, None, List, [], ◌∷◌, ◌++◌, map, refl, sym, ◌∙◌, ap, subst, arith, rules, append_assoc, append-nil}
-use Rattle.php_first_tree.specs.Expression.{Expression, Command, assign, echo, Statement, sum_view, statement_view, command_view}
-use Rattle.php_first_tree.specs.declared.Atom.{Atom}
-use Rattle.php_first_tree.specs.declared.Sum.{Sum}
+use Rattle.php_first_tree.specs.Expression.{Expression, int, variable, group, times, plus, minus, Part, value, text, Command, assign, echo, inline, empty, Statement, part_view, statement_view, command_view}
+use Rattle.php_first_tree.specs.declared.Part as trees_part
 use Rattle.php_first_tree.specs.declared.Statement as trees
 use Rattle.php_first_tokens.specs.declared.token.Lexeme.{Lexeme}
-use Rattle.php_first_tokens.specs.declared.token.Lexeme.TheVariants.{Variable, Int, Echo, Equals, Semicolon, Comma, Plus, Minus, Star, Open, Close}
+use Rattle.php_first_tokens.specs.declared.token.Lexeme.TheVariants.{Variable, Int, Text, Inline, Echo, Equals, Semicolon, Comma, Plus, Minus, Star, Open, Close}
 use Rattle.php_first_tokens.specs.declared.token.Token.{Token}
-use Rattle.php_first_parse.specs.Spelling.{sum, at_line, SpellsSum, SpellsParts, SpellsCommand, IsSpelling}
-use Rattle.php_first_parse.specs.Machine.{fresh, Target, to, part, Context, due, named, wants, has, step, run, read}
-use Rattle.php_first_parse.specs.Answers.{HeadIsNot, Ends, Fails}
+use Rattle.php_first_parse.specs.Spelling.{sum, at_line, Spells, SpellsSum, SpellsPart, SpellsParts, SpellsCommand, IsSpelling}
+use Rattle.php_first_parse.specs.Machine.{fresh, Target, to, part, Context, State, due, named, wants_part, told, wants, has, with_statement, part_context, step, run, read}
+use Rattle.php_first_parse.specs.Answers.{HeadIsNot, Ends, PartEnds, Fails}
 use Rattle.php_first_parse.proofs.Views.{map_push}
 use Rattle.php_first_parse.proofs.ReadBack.{back}
 
 -- a statement under way, with no open parenthesis
 abbrev pub begin : List Statement → ℕ → Target → Context
 begin done line target = record { done = done; line = line; target = target; outer = [] }
-
-abbrev pub placed : ℕ → Command → Statement
-placed line command = record { line = line; command = command }
 
 -- a whole sum of a statement is read
 pub whole : (done : List Statement) (line : ℕ) (target : Target) (e : Expression) (from rest : List Token) → SpellsSum e from rest → HeadIsNot Star rest
@@ -31,6 +27,8 @@ unassigned_step : (done : List Statement) (start k line : ℕ) (l : Lexeme) → 
 unassigned_step done start k line Equals h = absurd (h refl)
 unassigned_step done start k line (Variable j) h = refl
 unassigned_step done start k line (Int j) h = refl
+unassigned_step done start k line (Text j) h = refl
+unassigned_step done start k line (Inline j) h = refl
 unassigned_step done start k line Echo h = refl
 unassigned_step done start k line Semicolon h = refl
 unassigned_step done start k line Comma h = refl
@@ -54,6 +52,8 @@ value_stuck_step done start k e line Minus s p m h = absurd (m refl)
 value_stuck_step done start k e line Semicolon s p m h = absurd (h refl)
 value_stuck_step done start k e line (Variable j) s p m h = refl
 value_stuck_step done start k e line (Int j) s p m h = refl
+value_stuck_step done start k e line (Text j) s p m h = refl
+value_stuck_step done start k e line (Inline j) s p m h = refl
 value_stuck_step done start k e line Echo s p m h = refl
 value_stuck_step done start k e line Equals s p m h = refl
 value_stuck_step done start k e line Comma s p m h = refl
@@ -76,75 +76,162 @@ assigned k a b e from behind after rest is s end line = (a, b, behind, ap (λ x.
 
 -- ---- parts
 
-parts_stuck_step : (done : List Statement) (start : ℕ) (es : List Expression) (e : Expression) (line : ℕ) (l : Lexeme) → l ≢ Star → l ≢ Plus → l ≢ Minus → l ≢ Semicolon → l ≢ Comma
-    → step (has (begin done start (part es)) None e) line l ≡ None
-parts_stuck_step done start es e line Star s p m h g = absurd (s refl)
-parts_stuck_step done start es e line Plus s p m h g = absurd (p refl)
-parts_stuck_step done start es e line Minus s p m h g = absurd (m refl)
-parts_stuck_step done start es e line Semicolon s p m h g = absurd (h refl)
-parts_stuck_step done start es e line Comma s p m h g = absurd (g refl)
-parts_stuck_step done start es e line (Variable j) s p m h g = refl
-parts_stuck_step done start es e line (Int j) s p m h g = refl
-parts_stuck_step done start es e line Echo s p m h g = refl
-parts_stuck_step done start es e line Equals s p m h g = refl
-parts_stuck_step done start es e line Open s p m h g = refl
-parts_stuck_step done start es e line Close s p m h g = refl
+-- a sum begins with no text, so that a part is due changes nothing for it
+begins_value : (e : Expression) (from rest : List Token) → Spells e from rest → (done : List Statement) (line : ℕ) (ps : List Part)
+    → run (Some (wants_part done line ps)) from ≡ run (Some (wants (part_context done line ps) fresh)) from
+begins_value (int n) from rest s done line ps = ap (run (Some (wants_part done line ps))) s.1 ∙ sym (ap (run (Some (wants (part_context done line ps) fresh))) s.1)
+begins_value (variable k) from rest s done line ps = ap (run (Some (wants_part done line ps))) s.1 ∙ sym (ap (run (Some (wants (part_context done line ps) fresh))) s.1)
+begins_value (group e) from rest s done line ps = ap (run (Some (wants_part done line ps))) s.3 ∙ sym (ap (run (Some (wants (part_context done line ps) fresh))) s.3)
+begins_value (times l r) from rest s done line ps = begins_value l from (at_line Star s.0 ∷ s.1) s.2 done line ps
+begins_value (plus l r) from rest s done line ps = begins_value l from (at_line Plus s.0 ∷ s.1) s.2 done line ps
+begins_value (minus l r) from rest s done line ps = begins_value l from (at_line Minus s.0 ∷ s.1) s.2 done line ps
 
-parts_stuck : (done : List Statement) (start : ℕ) (es : List Expression) (e : Expression) (rest : List Token) → Ends sum rest → HeadIsNot Semicolon rest → HeadIsNot Comma rest
-    → run (Some (has (begin done start (part es)) None e)) rest ≡ None
-parts_stuck done start es e [] ends h g = refl
-parts_stuck done start es e (t ∷ rest) ends h g = ap (λ m. run m rest) (parts_stuck_step done start es e t.line t.lexeme ends.0 ends.1.0 ends.1.1 h g)
+-- behind a part
+abbrev pub behind_part : List Statement → ℕ → List Part → Part → State
+behind_part done line ps (value e) = has (part_context done line ps) None e
+behind_part done line ps (text at) = told done line (ps ++ text at ∷ [])
+
+-- a whole part is read
+pub whole_part : (p : Part) (from rest : List Token) → SpellsPart p from rest → PartEnds p rest → (done : List Statement) (line : ℕ) (ps : List Part)
+    → run (Some (wants_part done line ps)) from ≡ run (Some (behind_part done line ps p)) rest
+whole_part (value e) from rest s ends done line ps = begins_value e from rest s.spelled done line ps ∙ whole done line (part ps) e from rest s ends.0
+whole_part (text at) from rest s ends done line ps = ap (run (Some (wants_part done line ps))) s.1
+
+comma_ends : (p : Part) (a : ℕ) (rest : List Token) → PartEnds p (at_line Comma a ∷ rest)
+comma_ends (value e) a rest = ((λ h. search rules), ((λ h. search rules), (λ h. search rules)))
+comma_ends (text at) a rest = tt
+
+semicolon_ends : (p : Part) (a : ℕ) (rest : List Token) → PartEnds p (at_line Semicolon a ∷ rest)
+semicolon_ends (value e) a rest = ((λ h. search rules), ((λ h. search rules), (λ h. search rules)))
+semicolon_ends (text at) a rest = tt
+
+comma_step : (p : Part) (done : List Statement) (start line : ℕ) (ps : List Part) → step (behind_part done start ps p) line Comma ≡ Some (wants_part done start (ps ++ p ∷ []))
+comma_step (value e) done start line ps = refl
+comma_step (text at) done start line ps = refl
+
+semicolon_step : (p : Part) (done : List Statement) (start line : ℕ) (ps : List Part) → step (behind_part done start ps p) line Semicolon ≡ Some (with_statement done start (echo (ps ++ p ∷ [])))
+semicolon_step (value e) done start line ps = refl
+semicolon_step (text at) done start line ps = refl
+
+value_part_stuck_step : (done : List Statement) (start : ℕ) (ps : List Part) (e : Expression) (line : ℕ) (l : Lexeme) → l ≢ Star → l ≢ Plus → l ≢ Minus → l ≢ Semicolon → l ≢ Comma
+    → step (has (part_context done start ps) None e) line l ≡ None
+value_part_stuck_step done start ps e line Star s p m h g = absurd (s refl)
+value_part_stuck_step done start ps e line Plus s p m h g = absurd (p refl)
+value_part_stuck_step done start ps e line Minus s p m h g = absurd (m refl)
+value_part_stuck_step done start ps e line Semicolon s p m h g = absurd (h refl)
+value_part_stuck_step done start ps e line Comma s p m h g = absurd (g refl)
+value_part_stuck_step done start ps e line (Variable j) s p m h g = refl
+value_part_stuck_step done start ps e line (Int j) s p m h g = refl
+value_part_stuck_step done start ps e line (Text j) s p m h g = refl
+value_part_stuck_step done start ps e line (Inline j) s p m h g = refl
+value_part_stuck_step done start ps e line Echo s p m h g = refl
+value_part_stuck_step done start ps e line Equals s p m h g = refl
+value_part_stuck_step done start ps e line Open s p m h g = refl
+value_part_stuck_step done start ps e line Close s p m h g = refl
+
+text_stuck_step : (done : List Statement) (start : ℕ) (ps : List Part) (line : ℕ) (l : Lexeme) → l ≢ Semicolon → l ≢ Comma → step (told done start ps) line l ≡ None
+text_stuck_step done start ps line Semicolon h g = absurd (h refl)
+text_stuck_step done start ps line Comma h g = absurd (g refl)
+text_stuck_step done start ps line Star h g = refl
+text_stuck_step done start ps line Plus h g = refl
+text_stuck_step done start ps line Minus h g = refl
+text_stuck_step done start ps line (Variable j) h g = refl
+text_stuck_step done start ps line (Int j) h g = refl
+text_stuck_step done start ps line (Text j) h g = refl
+text_stuck_step done start ps line (Inline j) h g = refl
+text_stuck_step done start ps line Echo h g = refl
+text_stuck_step done start ps line Equals h g = refl
+text_stuck_step done start ps line Open h g = refl
+text_stuck_step done start ps line Close h g = refl
+
+part_stuck : (p : Part) (done : List Statement) (start : ℕ) (ps : List Part) (rest : List Token) → PartEnds p rest → HeadIsNot Semicolon rest → HeadIsNot Comma rest
+    → run (Some (behind_part done start ps p)) rest ≡ None
+part_stuck (value e) done start ps [] ends h g = refl
+part_stuck (value e) done start ps (t ∷ rest) ends h g = ap (λ m. run m rest) (value_part_stuck_step done start ps e t.line t.lexeme ends.0 ends.1.0 ends.1.1 h g)
+part_stuck (text at) done start ps [] ends h g = refl
+part_stuck (text at) done start ps (t ∷ rest) ends h g = ap (λ m. run m rest) (text_stuck_step done start (ps ++ text at ∷ []) t.line t.lexeme h g)
 
 -- neither a semicolon nor a comma stands behind a part
-pub part_open : (es : List Expression) (e : Expression) (from rest : List Token) → SpellsSum e from rest → Ends sum rest → HeadIsNot Semicolon rest → HeadIsNot Comma rest
-    → (done : List Statement) (line : ℕ) → run (Some (wants (begin done line (part es)) fresh)) from ≡ None
-part_open es e from rest s ends h g done line = whole done line (part es) e from rest s ends.0 ∙ parts_stuck done line es e rest ends h g
+pub part_open : (p : Part) (from rest : List Token) → SpellsPart p from rest → PartEnds p rest → HeadIsNot Semicolon rest → HeadIsNot Comma rest
+    → (done : List Statement) (line : ℕ) (ps : List Part) → run (Some (wants_part done line ps)) from ≡ None
+part_open p from rest s ends h g done line ps = whole_part p from rest s ends done line ps ∙ part_stuck p done line ps rest ends h g
+
+-- neither a text nor a sum stands where a part is due
+no_value_step : (done : List Statement) (start : ℕ) (ps : List Part) (line : ℕ) (l : Lexeme) → ((at : ℕ) → l ≢ Text at)
+    → step (wants_part done start ps) line l ≡ step (wants (part_context done start ps) fresh) line l
+no_value_step done start ps line (Text j) h = absurd (h j refl)
+no_value_step done start ps line (Variable j) h = refl
+no_value_step done start ps line (Int j) h = refl
+no_value_step done start ps line (Inline j) h = refl
+no_value_step done start ps line Echo h = refl
+no_value_step done start ps line Equals h = refl
+no_value_step done start ps line Semicolon h = refl
+no_value_step done start ps line Comma h = refl
+no_value_step done start ps line Plus h = refl
+no_value_step done start ps line Minus h = refl
+no_value_step done start ps line Star h = refl
+no_value_step done start ps line Open h = refl
+no_value_step done start ps line Close h = refl
+
+pub no_part : (l : Lexeme) (a : ℕ) (from behind : List Token) → ((at : ℕ) → l ≢ Text at) → from ≡ at_line l a ∷ behind → Fails sum 128 from
+    → (done : List Statement) (line : ℕ) (ps : List Part) → run (Some (wants_part done line ps)) from ≡ None
+no_part l a from behind other is h done line ps =
+    ap (run (Some (wants_part done line ps))) is
+    ∙ ap (λ m. run m behind) (no_value_step done line ps a l other)
+    ∙ ap (run (Some (wants (part_context done line ps) fresh))) (sym is)
+    ∙ h (part_context done line ps) (omega arith)
 
 -- a part and the comma behind it are read
-pub part_read : (parts now : List (Sum Atom)) (new : Sum Atom) (a : ℕ) (from after rest : List Token) → SpellsSum (sum_view new) from after → after ≡ at_line Comma a ∷ rest → now ≡ parts ++ new ∷ []
+pub part_read : (parts now : List trees_part.Part) (new : trees_part.Part) (a : ℕ) (from after rest : List Token) → SpellsPart (part_view new) from after → after ≡ at_line Comma a ∷ rest → now ≡ parts ++ new ∷ []
     → (done : List Statement) (line : ℕ)
-    → run (Some (wants (begin done line (part (map sum_view parts))) fresh)) from ≡ run (Some (wants (begin done line (part (map sum_view now))) fresh)) rest
+    → run (Some (wants_part done line (map part_view parts))) from ≡ run (Some (wants_part done line (map part_view now))) rest
 part_read parts now new a from after rest s is grown done line =
-    whole done line (part (map sum_view parts)) (sum_view new) from (at_line Comma a ∷ rest) (subst (SpellsSum (sum_view new) from) is s) (λ h. search rules)
-    ∙ ap (λ es. run (Some (wants (begin done line (part es)) fresh)) rest) (sym (ap (map sum_view) grown ∙ map_push sum_view parts new))
+    whole_part (part_view new) from (at_line Comma a ∷ rest) (subst (SpellsPart (part_view new) from) is s) (comma_ends (part_view new) a rest) done line (map part_view parts)
+    ∙ ap (λ m. run m rest) (comma_step (part_view new) done line a (map part_view parts))
+    ∙ ap (λ ps. run (Some (wants_part done line ps)) rest) (sym (ap (map part_view) grown ∙ map_push part_view parts new))
 
 pub grown_by : {A B : Type 0} (f : A → B) (xs now : List A) (x : A) (more : List B) → now ≡ xs ++ x ∷ [] → map f now ++ more ≡ map f xs ++ f x ∷ more
 grown_by f xs now x more grown =
     ap (λ l. l ++ more) (ap (map f) grown ∙ map_push f xs x) ∙ append_assoc (map f xs) (f x ∷ []) more
 
 -- what parts spell, those before them and the rest of them
-abbrev pub PartsFrom : List (Sum Atom) → List Token → List Token → Type 0
-PartsFrom parts from behind = (e : Expression) (es : List Expression) (rest : List Token) → SpellsParts (e ∷ es) behind rest → SpellsParts (map sum_view parts ++ e ∷ es) from rest
+abbrev pub PartsFrom : List trees_part.Part → List Token → List Token → Type 0
+PartsFrom parts from behind = (p : Part) (ps : List Part) (rest : List Token) → SpellsParts (p ∷ ps) behind rest → SpellsParts (map part_view parts ++ p ∷ ps) from rest
 
-pub part_spells : (parts now : List (Sum Atom)) (new : Sum Atom) (a : ℕ) (from begun after behind : List Token) → PartsFrom parts from begun → SpellsSum (sum_view new) begun after
+pub part_spells : (parts now : List trees_part.Part) (new : trees_part.Part) (a : ℕ) (from begun after behind : List Token) → PartsFrom parts from begun → SpellsPart (part_view new) begun after
     → after ≡ at_line Comma a ∷ behind → now ≡ parts ++ new ∷ [] → PartsFrom now from behind
-part_spells parts now new a from begun after behind before s is grown e es rest more =
-    subst (λ xs. SpellsParts xs from rest) (sym (grown_by sum_view parts now new (e ∷ es) grown))
-    (before (sum_view new) (e ∷ es) rest (a, behind, subst (SpellsSum (sum_view new) begun) is s, more))
+part_spells parts now new a from begun after behind before s is grown p ps rest more =
+    subst (λ xs. SpellsParts xs from rest) (sym (grown_by part_view parts now new (p ∷ ps) grown))
+    (before (part_view new) (p ∷ ps) rest (a, behind, subst (SpellsPart (part_view new) begun) is s, more))
 
-pub echoed : (parts now : List (Sum Atom)) (new : Sum Atom) (b : ℕ) (from begun after rest : List Token) → PartsFrom parts from begun → SpellsSum (sum_view new) begun after
-    → after ≡ at_line Semicolon b ∷ rest → now ≡ parts ++ new ∷ [] → (line : ℕ) → SpellsCommand (echo (map sum_view now)) line (at_line Echo line ∷ from) rest
+pub echoed : (parts now : List trees_part.Part) (new : trees_part.Part) (b : ℕ) (from begun after rest : List Token) → PartsFrom parts from begun → SpellsPart (part_view new) begun after
+    → after ≡ at_line Semicolon b ∷ rest → now ≡ parts ++ new ∷ [] → (line : ℕ) → SpellsCommand (echo (map part_view now)) line (at_line Echo line ∷ from) rest
 echoed parts now new b from begun after rest before s is grown line =
-    let all : SpellsParts (map sum_view parts ++ sum_view new ∷ []) from (at_line Semicolon b ∷ rest) =
-    before (sum_view new) [] (at_line Semicolon b ∷ rest) (subst (SpellsSum (sum_view new) begun) is s) in
-    (b, from, refl, subst (λ xs. SpellsParts xs from (at_line Semicolon b ∷ rest)) (sym (ap (map sum_view) grown ∙ map_push sum_view parts new)) all)
+    let all : SpellsParts (map part_view parts ++ part_view new ∷ []) from (at_line Semicolon b ∷ rest) =
+    before (part_view new) [] (at_line Semicolon b ∷ rest) (subst (SpellsPart (part_view new) begun) is s) in
+    (b, from, refl, subst (λ xs. SpellsParts xs from (at_line Semicolon b ∷ rest)) (sym (ap (map part_view) grown ∙ map_push part_view parts new)) all)
 
 -- ---- the machine reads the spelling of statements as these
 
-back_parts : (es before : List Expression) (done : List Statement) (line b : ℕ) (from rest : List Token) → SpellsParts es from (at_line Semicolon b ∷ rest)
-    → run (Some (wants (begin done line (part before)) fresh)) from ≡ run (Some (due (done ++ placed line (echo (before ++ es)) ∷ []))) rest
+back_parts : (ps before : List Part) (done : List Statement) (line b : ℕ) (from rest : List Token) → SpellsParts ps from (at_line Semicolon b ∷ rest)
+    → run (Some (wants_part done line before)) from ≡ run (Some (with_statement done line (echo (before ++ ps)))) rest
 back_parts [] before done line b from rest s = absurd s
-back_parts (e ∷ []) before done line b from rest s = whole done line (part before) e from (at_line Semicolon b ∷ rest) s (λ h. search rules)
-back_parts (e ∷ f ∷ es) before done line b from rest s =
-    whole done line (part before) e from (at_line Comma s.0 ∷ s.1) s.2 (λ h. search rules)
-    ∙ back_parts (f ∷ es) (before ++ e ∷ []) done line b s.1 rest s.3
-    ∙ ap (λ xs. run (Some (due (done ++ placed line (echo xs) ∷ []))) rest) (append_assoc before (e ∷ []) (f ∷ es))
+back_parts (p ∷ []) before done line b from rest s =
+    whole_part p from (at_line Semicolon b ∷ rest) s (semicolon_ends p b rest) done line before
+    ∙ ap (λ m. run m rest) (semicolon_step p done line b before)
+back_parts (p ∷ q ∷ ps) before done line b from rest s =
+    whole_part p from (at_line Comma s.0 ∷ s.1) s.2 (comma_ends p s.0 s.1) done line before
+    ∙ ap (λ m. run m s.1) (comma_step p done line s.0 before)
+    ∙ back_parts (q ∷ ps) (before ++ p ∷ []) done line b s.1 rest s.3
+    ∙ ap (λ xs. run (Some (with_statement done line (echo xs))) rest) (append_assoc before (p ∷ []) (q ∷ ps))
 
 back_command : (command : Command) (line : ℕ) (done : List Statement) (from rest : List Token) → SpellsCommand command line from rest
-    → run (Some (due done)) from ≡ run (Some (due (done ++ placed line command ∷ []))) rest
+    → run (Some (due done)) from ≡ run (Some (with_statement done line command)) rest
 back_command (assign k e) line done from rest s =
     ap (run (Some (due done))) s.3 ∙ whole done line (to k) e s.2 (at_line Semicolon s.1 ∷ rest) s.4 (λ h. search rules)
-back_command (echo es) line done from rest s = ap (run (Some (due done))) s.2 ∙ back_parts es [] done line s.0 s.1 rest s.3
+back_command (echo ps) line done from rest s = ap (run (Some (due done))) s.2 ∙ back_parts ps [] done line s.0 s.1 rest s.3
+back_command (inline at) line done from rest s = ap (run (Some (due done))) s
+back_command empty line done from rest s = ap (run (Some (due done))) s
 
 back_all : (ss done : List Statement) (tokens : List Token) → IsSpelling ss tokens → run (Some (due done)) tokens ≡ Some (done ++ ss)
 back_all [] done tokens s = ap (run (Some (due done))) s ∙ ap Some (sym (append-nil done))

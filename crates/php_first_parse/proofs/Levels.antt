@@ -9,7 +9,7 @@ use Rattle.php_first_tree.specs.declared.Term.{Term}
 use Rattle.php_first_tree.specs.declared.Sign.{Sign}
 use Rattle.php_first_tree.specs.declared.Sign.TheVariants as sign
 use Rattle.php_first_tokens.specs.declared.token.Lexeme.{Lexeme}
-use Rattle.php_first_tokens.specs.declared.token.Lexeme.TheVariants.{Variable, Int, Echo, Equals, Semicolon, Comma, Plus, Minus, Star, Open, Close}
+use Rattle.php_first_tokens.specs.declared.token.Lexeme.TheVariants.{Variable, Int, Text, Inline, Echo, Equals, Semicolon, Comma, Plus, Minus, Star, Open, Close}
 use Rattle.php_first_tokens.specs.declared.token.Token.{Token}
 use Rattle.php_first_parse.specs.Spelling.{atom, product, sum, Fits, at_line, Spells, SpellsAt}
 use Rattle.php_first_parse.specs.Machine.{Frame, Context, wants, has, opened, step, run}
@@ -26,6 +26,8 @@ stuck_step c f e line Minus s p m h = absurd (m refl)
 stuck_step c f e line Close s p m h = absurd (h refl)
 stuck_step c f e line (Variable k) s p m h = refl
 stuck_step c f e line (Int k) s p m h = refl
+stuck_step c f e line (Text k) s p m h = refl
+stuck_step c f e line (Inline k) s p m h = refl
 stuck_step c f e line Echo s p m h = refl
 stuck_step c f e line Equals s p m h = refl
 stuck_step c f e line Semicolon s p m h = refl

@@ -5,7 +5,7 @@ use Rattle.std.specs.Prelude.{nat_lt, if◌then◌else◌}
 use Rattle.php_first_tree.specs.Expression.{Expression, int, variable, group, times, plus, minus, joined}
 use Rattle.php_first_tree.specs.declared.Sign.TheVariants as sign
 use Rattle.php_first_tokens.specs.declared.token.Lexeme.{Lexeme}
-use Rattle.php_first_tokens.specs.declared.token.Lexeme.TheVariants.{Variable, Int, Echo, Equals, Semicolon, Comma, Plus, Minus, Star, Open, Close}
+use Rattle.php_first_tokens.specs.declared.token.Lexeme.TheVariants.{Variable, Int, Text, Inline, Echo, Equals, Semicolon, Comma, Plus, Minus, Star, Open, Close}
 use Rattle.php_first_tokens.specs.declared.token.Token.{Token}
 use Rattle.php_first_parse.specs.Spelling.{atom, product, sum, Fits, Within, at_line, Spells}
 use Rattle.php_first_parse.specs.Machine.{Begun, Frame, fresh, Context, wants, has, product_after, sum_after, opened, step, run}
@@ -18,6 +18,8 @@ settled_step : (c : Context) (s : Option Begun) (e : Expression) (line : ℕ) (l
 settled_step c s e line Star h = absurd (h refl)
 settled_step c s e line (Variable k) h = refl
 settled_step c s e line (Int k) h = refl
+settled_step c s e line (Text k) h = refl
+settled_step c s e line (Inline k) h = refl
 settled_step c s e line Echo h = refl
 settled_step c s e line Equals h = refl
 settled_step c s e line Semicolon h = refl

@@ -1,16 +1,17 @@
 -- What the functions of the parser answer.
 use Rattle.std.specs.Prelude.{◌≡◌, ◌≢◌, ◌≤◌, ◌<◌, ℕ, ◌+◌, Option, Some, None, List, [], ◌∷◌, drop, length}
-use Rattle.php_first_tree.specs.Expression.{Expression, Command, Statement, command_view}
+use Rattle.php_first_tree.specs.Expression.{Expression, Part, value, text, Command, Statement, part_view, command_view}
 use Rattle.php_first_tree.specs.declared.Atom.{Atom}
 use Rattle.php_first_tree.specs.declared.Sign.{Sign}
 use Rattle.php_first_tree.specs.declared.Sign.TheVariants as sign
 use Rattle.php_first_tree.specs.declared.Action.{Action}
+use Rattle.php_first_tree.specs.declared.Part as tree_part
 use Rattle.php_first_tokens.specs.declared.token.Lexeme.{Lexeme}
 use Rattle.php_first_tokens.specs.declared.token.Lexeme.TheVariants as lexeme
 use Rattle.php_first_tokens.specs.declared.token.Token.{Token}
 use Rattle.php_first_parse.specs.declared.sums.Read.{Read}
-use Rattle.php_first_parse.specs.Spelling.{Level, atom, product, sum, SpellsAt, SpellsCommand, at_line}
-use Rattle.php_first_parse.specs.Machine.{Begun, Frame, fresh, Context, due, wants, opened, step, run}
+use Rattle.php_first_parse.specs.Spelling.{Level, atom, product, sum, SpellsAt, SpellsPart, SpellsCommand, at_line}
+use Rattle.php_first_parse.specs.Machine.{Begun, Frame, fresh, Context, due, wants_part, wants, opened, step, run}
 
 -- the token at a place, and those behind it
 abbrev pub Sees : List Token → ℕ → Option Token → Type 0
@@ -74,10 +75,27 @@ abbrev pub AnswersGroup : (Atom → Expression) → ℕ → List Token → ℕ �
 AnswersGroup view depth tokens at None = (c : Context) (f : Frame) → length c.outer + depth ≡ 128 → run (opened c f) (drop at tokens) ≡ None
 AnswersGroup view depth tokens at (Some r) = FoundGroup depth (view r.tree) tokens at r.next
 
--- the tokens from a place on, and one with this lexeme before them, are a command
+-- a sum that is a part of an `echo` goes on as far as it can; a text is one token
+abbrev pub PartEnds : Part → List Token → Type 0
+PartEnds (value e) rest = Ends sum rest
+PartEnds (text at) rest = Unit {0}
+
+-- the part stands from a place to before another
+pub record FoundPart (p : Part) (tokens : List Token) (at next : ℕ) : Type 0 where
+  pub spelled : SpellsPart p (drop at tokens) (drop next tokens)
+  pub ends : PartEnds p (drop next tokens)
+  pub ahead : at < next
+  pub within : next ≤ length tokens
+
+-- where there is none, no statements are spelled by tokens that go on so behind an `echo` and any parts with their commas
+abbrev pub AnswersPart : List Token → ℕ → Option (Read tree_part.Part) → Type 0
+AnswersPart tokens at None = (done : List Statement) (line : ℕ) (parts : List Part) → run (Some (wants_part done line parts)) (drop at tokens) ≡ None
+AnswersPart tokens at (Some r) = FoundPart (part_view r.tree) tokens at r.next
+
+-- The tokens from a place on, and one with this lexeme before them, are a command. That one may be all of it.
 pub record FoundCommand (first : Lexeme) (command : Command) (tokens : List Token) (at next : ℕ) : Type 0 where
   pub spelled : (line : ℕ) → SpellsCommand command line (at_line first line ∷ drop at tokens) (drop next tokens)
-  pub ahead : at < next
+  pub ahead : at ≤ next
   pub within : next ≤ length tokens
 
 abbrev pub AnswersCommand : Lexeme → List Token → ℕ → Option (Read Action) → Type 0

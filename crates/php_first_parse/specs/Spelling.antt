@@ -1,13 +1,14 @@
 -- The grammar: which tokens spell which statements.
 --
---   script  = { VARIABLE "=" sum ";" | "echo" sum { "," sum } ";" }
+--   script  = { INLINE | ";" | VARIABLE "=" sum ";" | "echo" part { "," part } ";" }
+--   part    = sum | STRING
 --   sum     = product { ( "+" | "-" ) product }
 --   product = atom { "*" atom }
 --   atom    = INT | VARIABLE | "(" sum ")"
 use Rattle.std.specs.Prelude.{◌≡◌, ℕ, ◌<◌, ◌-◌, List, [], ◌∷◌}
-use Rattle.php_first_tree.specs.Expression.{Expression, int, variable, group, times, plus, minus, Command, assign, echo, Statement}
+use Rattle.php_first_tree.specs.Expression.{Expression, int, variable, group, times, plus, minus, Part, value, text, Command, assign, echo, inline, empty, Statement}
 use Rattle.php_first_tokens.specs.declared.token.Lexeme.{Lexeme}
-use Rattle.php_first_tokens.specs.declared.token.Lexeme.TheVariants.{Variable, Int, Echo, Equals, Semicolon, Comma, Plus, Minus, Star, Open, Close}
+use Rattle.php_first_tokens.specs.declared.token.Lexeme.TheVariants.{Variable, Int, Text, Inline, Echo, Equals, Semicolon, Comma, Plus, Minus, Star, Open, Close}
 use Rattle.php_first_tokens.specs.declared.token.Token.{Token}
 
 -- what stands for what in the grammar
@@ -63,12 +64,17 @@ pub record SpellsAt (level : Level) (depth : ℕ) (e : Expression) (tokens rest 
 abbrev pub SpellsSum : Expression → List Token → List Token → Type 0
 SpellsSum = SpellsAt sum 128
 
+-- a part of an `echo`
+abbrev pub SpellsPart : Part → List Token → List Token → Type 0
+SpellsPart (value e) tokens rest = SpellsSum e tokens rest
+SpellsPart (text at) tokens rest = (a : ℕ) × (tokens ≡ at_line (Text at) a ∷ rest)
+
 -- the parts of an `echo`, at least one, with commas between them
-abbrev pub SpellsParts : List Expression → List Token → List Token → Type 0
+abbrev pub SpellsParts : List Part → List Token → List Token → Type 0
 SpellsParts [] tokens rest = ⊥
-SpellsParts (e ∷ []) tokens rest = SpellsSum e tokens rest
-SpellsParts (e ∷ f ∷ es) tokens rest =
-    (a : ℕ) × (more : List Token) × SpellsSum e tokens (at_line Comma a ∷ more) × SpellsParts (f ∷ es) more rest
+SpellsParts (p ∷ []) tokens rest = SpellsPart p tokens rest
+SpellsParts (p ∷ q ∷ ps) tokens rest =
+    (a : ℕ) × (more : List Token) × SpellsPart p tokens (at_line Comma a ∷ more) × SpellsParts (q ∷ ps) more rest
 
 -- a statement, whose first token is on the line
 abbrev pub SpellsCommand : Command → ℕ → List Token → List Token → Type 0
@@ -76,8 +82,10 @@ SpellsCommand (assign k e) line tokens rest =
     (a b : ℕ) × (right : List Token)
     × (tokens ≡ at_line (Variable k) line ∷ at_line Equals a ∷ right)
     × SpellsSum e right (at_line Semicolon b ∷ rest)
-SpellsCommand (echo es) line tokens rest =
-    (b : ℕ) × (parts : List Token) × (tokens ≡ at_line Echo line ∷ parts) × SpellsParts es parts (at_line Semicolon b ∷ rest)
+SpellsCommand (echo ps) line tokens rest =
+    (b : ℕ) × (parts : List Token) × (tokens ≡ at_line Echo line ∷ parts) × SpellsParts ps parts (at_line Semicolon b ∷ rest)
+SpellsCommand (inline at) line tokens rest = tokens ≡ at_line (Inline at) line ∷ rest
+SpellsCommand empty line tokens rest = tokens ≡ at_line Semicolon line ∷ rest
 
 -- The tokens are a spelling of the statements.
 abbrev pub IsSpelling : List Statement → List Token → Type 0

@@ -6,10 +6,10 @@ ghost use Rattle.php_first_tokens.specs.declared.token.Lexeme.TheVariants as lex
 ghost use Rattle.php_first_parse.specs.Spelling.{IsSpelling};
 ghost use Rattle.php_first_parse.specs.Answers as answer;
 
-use crate::sums::{Read, sees, sum, token_at};
+use crate::sums::{Read, lexeme_at, sees, sum, token_at};
 use php_base::NoMemory;
 use php_first_tokens::{Lexeme, Token};
-use php_first_tree::{Action, Statement};
+use php_first_tree::{Action, Part, Statement};
 use sqlite_items::Items;
 use std::alloc::Global;
 
@@ -19,7 +19,7 @@ const MAX_OPEN: usize = 128;
 /// What stands behind the variable that an assignment begins with.
 fn assignment(
     alloc: Global,
-    number: u32,
+    number: usize,
     tokens: &[Token],
     at: usize,
 ) -> Result<Option<Read<Action>>, NoMemory>
@@ -41,6 +41,29 @@ fn assignment(
     }))
 }
 
+/// The part of an `echo` that begins at a place.
+fn part(alloc: Global, tokens: &[Token], at: usize) -> Result<Option<Read<Part>>, NoMemory>
+    requires { at ≤ length tokens.now }
+    ensures { IfOk result (λ found. answer.AnswersPart tokens.now at found) }
+{
+    let Some(lexeme) = lexeme_at(tokens, at) else {
+        return Ok(None);
+    };
+    if let Lexeme::Text(place) = lexeme {
+        return Ok(Some(Read {
+            tree: Part::Text(place),
+            next: at + 1,
+        }));
+    }
+    let Some(value) = sum(alloc, tokens, at, MAX_OPEN)? else {
+        return Ok(None);
+    };
+    Ok(Some(Read {
+        tree: Part::Value(value.tree),
+        next: value.next,
+    }))
+}
+
 /// The parts behind `echo`.
 fn echo(alloc: Global, tokens: &[Token], at: usize) -> Result<Option<Read<Action>>, NoMemory>
     requires { at ≤ length tokens.now }
@@ -49,20 +72,20 @@ fn echo(alloc: Global, tokens: &[Token], at: usize) -> Result<Option<Read<Action
     let mut parts = Items::new(alloc);
     let mut next = at;
     loop {
-        let Some(part) = sum(alloc, tokens, next, MAX_OPEN)? else {
+        let Some(read) = part(alloc, tokens, next)? else {
             return Ok(None);
         };
-        parts.push(part.tree)?;
-        if sees(tokens, part.next, Lexeme::Semicolon) {
+        parts.push(read.tree)?;
+        if sees(tokens, read.next, Lexeme::Semicolon) {
             return Ok(Some(Read {
                 tree: Action::Echo(parts),
-                next: part.next + 1,
+                next: read.next + 1,
             }));
         }
-        if !sees(tokens, part.next, Lexeme::Comma) {
+        if !sees(tokens, read.next, Lexeme::Comma) {
             return Ok(None);
         }
-        next = part.next + 1;
+        next = read.next + 1;
     }
 }
 
@@ -79,6 +102,14 @@ fn action(
     match first {
         Lexeme::Variable(number) => assignment(alloc, number, tokens, at),
         Lexeme::Echo => echo(alloc, tokens, at),
+        Lexeme::Inline(place) => Ok(Some(Read {
+            tree: Action::Inline(place),
+            next: at,
+        })),
+        Lexeme::Semicolon => Ok(Some(Read {
+            tree: Action::Empty,
+            next: at,
+        })),
         _ => Ok(None),
     }
 }
@@ -171,6 +202,80 @@ mod tests {
         assert_eq!(rt; *number, 0);
         assert_eq!(rt; value.first.rest.len(), 1);
         assert_eq!(rt; value.rest.len(), 1);
+        Ok(())
+    }
+
+    /// The place of the text that a part of the `echo` is, where it is one.
+    fn text_of(statement: &Statement, part: usize) -> Option<usize> {
+        let Action::Echo(parts) = &statement.action else {
+            return None;
+        };
+        match parts.get(part) {
+            Some(Part::Text(place)) => Some(*place),
+            _ => None,
+        }
+    }
+
+    #[test]
+    fn reads_texts_and_values(rt: HostRuntime) -> Result<(), Fail> {
+        let tokens = spelled(
+            rt.alloc(),
+            &[
+                Lexeme::Echo,
+                Lexeme::Text(1),
+                Lexeme::Comma,
+                Lexeme::Int(2),
+                Lexeme::Comma,
+                Lexeme::Text(5),
+                Lexeme::Semicolon,
+            ],
+        )?;
+        let statements = parse(rt.alloc(), tokens.as_slice())?.ok_or("no statements")?;
+        assert_eq!(rt; statements.len(), 1);
+        let echo = statements.get(0).ok_or("no echo")?;
+        assert_eq!(rt; text_of(echo, 0), Some(1));
+        assert_eq!(rt; text_of(echo, 1), None);
+        assert_eq!(rt; text_of(echo, 2), Some(5));
+        Ok(())
+    }
+
+    #[test]
+    fn reads_text_outside_and_semicolons(rt: HostRuntime) -> Result<(), Fail> {
+        let tokens = spelled(
+            rt.alloc(),
+            &[Lexeme::Semicolon, Lexeme::Inline(1), Lexeme::Semicolon],
+        )?;
+        let statements = parse(rt.alloc(), tokens.as_slice())?.ok_or("no statements")?;
+        assert_eq!(rt; statements.len(), 3);
+        let outside = statements.get(1).ok_or("no text")?;
+        let Action::Inline(place) = &outside.action else {
+            return Err(Fail::from("no text outside the tags"));
+        };
+        assert_eq!(rt; *place, 1);
+        let last = statements.get(2).ok_or("no semicolon")?;
+        assert!(rt; matches!(&last.action, Action::Empty));
+        Ok(())
+    }
+
+    #[test]
+    fn refuses_texts_in_sums_and_side_by_side(rt: HostRuntime) -> Result<(), Fail> {
+        let sum = &[
+            Lexeme::Echo,
+            Lexeme::Int(1),
+            Lexeme::Plus,
+            Lexeme::Text(3),
+            Lexeme::Semicolon,
+        ];
+        let tokens = spelled(rt.alloc(), sum)?;
+        assert!(rt; parse(rt.alloc(), tokens.as_slice())?.is_none());
+        let side_by_side = &[
+            Lexeme::Echo,
+            Lexeme::Text(1),
+            Lexeme::Text(2),
+            Lexeme::Semicolon,
+        ];
+        let tokens = spelled(rt.alloc(), side_by_side)?;
+        assert!(rt; parse(rt.alloc(), tokens.as_slice())?.is_none());
         Ok(())
     }
 

@@ -4,13 +4,11 @@ use Rattle.std.proofs.lemmas.List.{take-append-drop, append_assoc, append-nil}
 use Rattle.php_base.specs.Written.{GrewBy, GrewByPart}
 use Rattle.php_base.specs.Counts.{Rose}
 use Rattle.php_base.proofs.Growth.{grew-twice}
-use Rattle.php_first_tree.specs.Expression.{sum_view, statement_view, command_view}
+use Rattle.php_first_tree.specs.Expression.{part_view, statement_view, command_view}
 use Rattle.php_first_tree.specs.declared.Statement.{Statement}
-use Rattle.php_first_tree.specs.declared.Atom.{Atom}
-use Rattle.php_first_tree.specs.declared.Sum.{Sum}
-use Rattle.php_first_run.specs.Evaluation.{evaluated}
+use Rattle.php_first_tree.specs.declared.Part.{Part}
 use Rattle.php_first_tree.specs.Expression as meaning
-use Rattle.php_first_run.specs.Running.{cut_off, overflowed, Effect, Outcome, part_written, echoed, step, run, followed_by}
+use Rattle.php_first_run.specs.Running.{cut_off, overflowed, Effect, Outcome, part_text, part_written, echoed, step, takes_tick, run, followed_by}
 use Rattle.php_first_run.proofs.Lists.{drop_at}
 use Rattle.php_first_run.specs.Walking.{Stream, AllWritten, BrokenOff}
 use Rattle.php_first_run.specs.declared.value.Value.{Value}
@@ -85,29 +83,26 @@ wrote_all whole old now so =
     subst P (sym (append-nil so.front) ∙ so.split) so.written
 
 -- the parts from a place on
-pub echoed-at : (values : List Value) (parts : List (Sum Atom)) (i : ℕ) (part : Sum Atom) (value : Value) →
-    i < length parts → part ≡ get_or parts i part → evaluated values (sum_view part) ≡ Some value →
-    echoed values (map sum_view (drop i parts)) ≡ part_written values (Some value) (echoed values (map sum_view (drop (i + 1) parts)))
-echoed-at values parts i part value within is worth =
-    ap (λ ps. echoed values (map sum_view ps)) (drop_at parts i part within is)
-    ∙ ap (λ v. part_written values v (echoed values (map sum_view (drop (i + 1) parts)))) worth
+pub echoed-at : (texts : List (List ℕ)) (values : List Value) (parts : List Part) (i : ℕ) (part : Part) (text : Option (List ℕ)) →
+    i < length parts → part ≡ get_or parts i part → part_text texts values (part_view part) ≡ text →
+    echoed texts values (map part_view (drop i parts)) ≡ part_written values text (echoed texts values (map part_view (drop (i + 1) parts)))
+echoed-at texts values parts i part text within is worth =
+    ap (λ ps. echoed texts values (map part_view ps)) (drop_at parts i part within is)
+    ∙ ap (λ t. part_written values t (echoed texts values (map part_view (drop (i + 1) parts)))) worth
 
--- the statements from a place on, where a tick is left
-pub run-at : (allowance ticks : ℕ) (values : List Value) (statements : List Statement) (i : ℕ) (s : Statement) →
-    i < length statements → s ≡ get_or statements i s → nat_lt ticks allowance ≡ true →
-    run allowance ticks values (map statement_view (drop i statements))
-    ≡ followed_by (step values (command_view s.action)) s.line (ticks + 1) (run allowance (ticks + 1) (step values (command_view s.action)).values (map statement_view (drop (i + 1) statements)))
-run-at allowance ticks values statements i s within is left =
-    ap (λ ss. run allowance ticks values (map statement_view ss)) (drop_at statements i s within is)
-    ∙ ap (λ (b : Bool). if b then followed_by (step values (command_view s.action)) s.line (ticks + 1) (run allowance (ticks + 1) (step values (command_view s.action)).values (map statement_view (drop (i + 1) statements))) else record { ending = cut_off; ticks = ticks; output = [] }) left
-
--- and where none is left
-pub run-at_end : (allowance ticks : ℕ) (values : List Value) (statements : List Statement) (i : ℕ) (s : Statement) →
-    i < length statements → s ≡ get_or statements i s → nat_lt ticks allowance ≡ false →
-    run allowance ticks values (map statement_view (drop i statements)) ≡ record { ending = cut_off; ticks = ticks; output = [] }
-run-at_end allowance ticks values statements i s within is left =
-    ap (λ ss. run allowance ticks values (map statement_view ss)) (drop_at statements i s within is)
-    ∙ ap (λ (b : Bool). if b then followed_by (step values (command_view s.action)) s.line (ticks + 1) (run allowance (ticks + 1) (step values (command_view s.action)).values (map statement_view (drop (i + 1) statements))) else record { ending = cut_off; ticks = ticks; output = [] }) left
+-- the statements from a place on, where the first one wants a tick and one is left
+pub run-at : (texts : List (List ℕ)) (allowance ticks : ℕ) (values : List Value) (statements : List Statement) (i : ℕ) (s : Statement) →
+    i < length statements → s ≡ get_or statements i s → takes_tick (command_view s.action) ≡ true → nat_lt ticks allowance ≡ true →
+    run texts allowance ticks values (map statement_view (drop i statements))
+    ≡ followed_by (step texts values (command_view s.action)) s.line (ticks + 1)
+    (run texts allowance (ticks + 1) (step texts values (command_view s.action)).values (map statement_view (drop (i + 1) statements)))
+run-at texts allowance ticks values statements i s within is takes left =
+    let e = step texts values (command_view s.action) in
+    let rest = map statement_view (drop (i + 1) statements) in
+    let begun = λ (b : Bool). if b then followed_by e s.line (ticks + 1) (run texts allowance (ticks + 1) e.values rest) else record { ending = cut_off; ticks = ticks; output = [] } in
+    ap (λ ss. run texts allowance ticks values (map statement_view ss)) (drop_at statements i s within is)
+    ∙ ap (λ (b : Bool). if b then begun (nat_lt ticks allowance) else run texts allowance ticks values rest) takes
+    ∙ ap begun left
 
 -- what a statement writes is the beginning of what is written from it on
 pub followed_by-output : (e : Effect) (line ticks : ℕ) (rest : Outcome) → (more : List ℕ) × ((followed_by e line ticks rest).output ≡ e.bytes ++ more)
@@ -117,14 +112,18 @@ followed_by-output e line ticks rest = by_cases e.overflows where
   by_cases false = (rest.output, refl)
 
 -- ticks never fall
-pub run-ticks : (allowance ticks : ℕ) (values : List Value) (statements : List meaning.Statement) → ticks ≤ (run allowance ticks values statements).ticks
-run-ticks allowance ticks values [] = omega arith
-run-ticks allowance ticks values (s ∷ ss) = by_cases (nat_lt ticks allowance) (step values s.command).overflows (run-ticks allowance (ticks + 1) (step values s.command).values ss) where
-  by_cases : (left over : Bool) → ticks + 1 ≤ (run allowance (ticks + 1) (step values s.command).values ss).ticks →
-      ticks ≤ (if left then (if over then record { ending = overflowed s.line; ticks = ticks + 1; output = (step values s.command).bytes } else record (run allowance (ticks + 1) (step values s.command).values ss) { output = (step values s.command).bytes ++ (run allowance (ticks + 1) (step values s.command).values ss).output }) else record { ending = cut_off; ticks = ticks; output = [] }).ticks
-  by_cases true true later = omega arith
-  by_cases true false later = omega arith
-  by_cases false over later = omega arith
+pub run-ticks : (texts : List (List ℕ)) (allowance ticks : ℕ) (values : List Value) (statements : List meaning.Statement) → ticks ≤ (run texts allowance ticks values statements).ticks
+run-ticks texts allowance ticks values [] = omega arith
+run-ticks texts allowance ticks values (s ∷ ss) =
+    by_cases (takes_tick s.command) (nat_lt ticks allowance) (step texts values s.command).overflows
+    (run-ticks texts allowance (ticks + 1) (step texts values s.command).values ss) (run-ticks texts allowance ticks values ss) where
+      by_cases : (takes left over : Bool) → ticks + 1 ≤ (run texts allowance (ticks + 1) (step texts values s.command).values ss).ticks →
+          ticks ≤ (run texts allowance ticks values ss).ticks →
+          ticks ≤ (if takes then (if left then (if over then record { ending = overflowed s.line; ticks = ticks + 1; output = (step texts values s.command).bytes } else record (run texts allowance (ticks + 1) (step texts values s.command).values ss) { output = (step texts values s.command).bytes ++ (run texts allowance (ticks + 1) (step texts values s.command).values ss).output }) else record { ending = cut_off; ticks = ticks; output = [] }) else run texts allowance ticks values ss).ticks
+      by_cases true true true later past = omega arith
+      by_cases true true false later past = omega arith
+      by_cases true false over later past = omega arith
+      by_cases false left over later past = past
 
 -- the ticks of a statement that was begun
 pub followed_by-ticks : (e : Effect) (line ticks : ℕ) (rest : Outcome) → ticks ≤ rest.ticks → ticks ≤ (followed_by e line ticks rest).ticks
@@ -134,16 +133,16 @@ followed_by-ticks e line ticks rest later = by_cases e.overflows where
   by_cases false = later
 
 -- a statement ran without an overflow, and left these values
-pub run-on : (allowance ticks : ℕ) (values left : List Value) (statements : List Statement) (i : ℕ) (s : Statement) →
-    i < length statements → s ≡ get_or statements i s → nat_lt ticks allowance ≡ true →
-    (step values (command_view s.action)).overflows ≡ false → left ≡ (step values (command_view s.action)).values →
-    run allowance ticks values (map statement_view (drop i statements))
-    ≡ record (run allowance (ticks + 1) left (map statement_view (drop (i + 1) statements))) {
-      output = (step values (command_view s.action)).bytes ++ (run allowance (ticks + 1) left (map statement_view (drop (i + 1) statements))).output;
+pub run-on : (texts : List (List ℕ)) (allowance ticks : ℕ) (values left : List Value) (statements : List Statement) (i : ℕ) (s : Statement) →
+    i < length statements → s ≡ get_or statements i s → takes_tick (command_view s.action) ≡ true → nat_lt ticks allowance ≡ true →
+    (step texts values (command_view s.action)).overflows ≡ false → left ≡ (step texts values (command_view s.action)).values →
+    run texts allowance ticks values (map statement_view (drop i statements))
+    ≡ record (run texts allowance (ticks + 1) left (map statement_view (drop (i + 1) statements))) {
+      output = (step texts values (command_view s.action)).bytes ++ (run texts allowance (ticks + 1) left (map statement_view (drop (i + 1) statements))).output;
     }
-run-on allowance ticks values left statements i s within is tick goes same =
-    let e = step values (command_view s.action) in
-    let later = λ (vs : List Value). run allowance (ticks + 1) vs (map statement_view (drop (i + 1) statements)) in
-    run-at allowance ticks values statements i s within is tick
+run-on texts allowance ticks values left statements i s within is takes tick goes same =
+    let e = step texts values (command_view s.action) in
+    let later = λ (vs : List Value). run texts allowance (ticks + 1) vs (map statement_view (drop (i + 1) statements)) in
+    run-at texts allowance ticks values statements i s within is takes tick
     ∙ ap (λ (b : Bool). if b then record { ending = overflowed s.line; ticks = ticks + 1; output = e.bytes } else record (later e.values) { output = e.bytes ++ (later e.values).output }) goes
     ∙ ap (λ (vs : List Value). record (later vs) { output = e.bytes ++ (later vs).output }) (sym same)

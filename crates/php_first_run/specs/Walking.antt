@@ -1,5 +1,5 @@
 -- What a walk over statements or parts leaves of a sink, held against what is to be written.
-use Rattle.std.specs.Prelude.{◌≡◌, ℕ, ◌≤◌, true, false, List, [], ◌++◌, Option}
+use Rattle.std.specs.Prelude.{◌≡◌, ℕ, ◌≤◌, true, false, List, [], ◌++◌, Option, Some, None}
 use Rattle.php_base.specs.Counts.{Rose}
 use Rattle.php_base.specs.Written.{GrewBy}
 use Rattle.php_first_run.specs.Running.{Effect, Outcome, Ending, completed, overflowed, cut_off}
@@ -29,6 +29,12 @@ pub record BrokenOff (bytes : List ℕ) (old new : Stream) : Type 0 where
   pub front : List ℕ
   pub is_front : IsFront front bytes
   pub grew : GrewBy old.written new.written front
+
+-- A part of a statement was written, or it overflowed and nothing was, or the sink failed in it.
+abbrev pub Writes : Option (List ℕ) → Step.Step → Stream → Stream → Type 0
+Writes text step.Done old new = (bytes : List ℕ) × (text ≡ Some bytes) × AllWritten bytes old new
+Writes text step.Overflow old new = (text ≡ None) × (new ≡ old)
+Writes text step.SinkFault old new = (bytes : List ℕ) × (text ≡ Some bytes) × BrokenOff bytes old new
 
 -- an assignment did what its effect says, and wrote nothing
 abbrev pub Assigns : Effect → Step.Step → List Value → Type 0

@@ -50,10 +50,10 @@ fn minus(alloc: Global, left: Option<Value>, right: Option<Value>) -> Option<Val
     operate(alloc, Op::Sub, left?, right?)
 }
 
-fn variable(values: &[Value], number: u32) -> Value
+fn variable(values: &[Value], number: usize) -> Value
     ensures { result ≡ value_at values.now number }
 {
-    values.get(number as usize).copied().unwrap_or(Value::Null)
+    values.get(number).copied().unwrap_or(Value::Null)
 }
 
 #[cycle(sums)]

@@ -1,15 +1,15 @@
-ghost use Rattle.std.specs.Prelude.{◌≡◌, map, OnOk, OnErr};
-ghost use Rattle.php_base.specs.Written.{GrewBy};
-ghost use Rattle.php_first_tree.specs.Expression.{command_view, statement_view, sum_view};
+ghost use Rattle.std.specs.Prelude.{◌≡◌, map, Some};
+ghost use Rattle.php_first_tree.specs.Expression.{command_view, part_view, statement_view, sum_view};
 ghost use Rattle.php_first_run.specs.Evaluation.{evaluated};
-ghost use Rattle.php_first_run.specs.Running.{assigned, echoed, run, step, text_of};
-ghost use Rattle.php_first_run.specs.Walking.{AllWritten, Assigns, BrokenOff, Executes, Walks};
+ghost use Rattle.php_first_run.specs.Running.{assigned, echoed, part_text, run, step, takes_tick, text_at, text_of, texts_of};
+ghost use Rattle.php_first_run.specs.Walking.{Assigns, Executes, Walks, Writes};
 
 use crate::evaluate::evaluate;
 use crate::value::Value;
 use itoa::Buffer;
-use php_base::{Failed, Sink, put_all};
-use php_first_tree::{Action, Atom, Statement, Sum};
+use php_base::{Sink, put_all};
+use php_first_tree::{Action, Atom, Part, Statement, Sum};
+use php_lex::Tokens;
 use std::alloc::Global;
 
 /// How a run stopped.
@@ -32,7 +32,7 @@ pub struct Walked {
     pub ticks: u64,
 }
 
-/// How a statement ended.
+/// How a statement, or a part of one, ended.
 #[derive(Clone, Copy, Debug, PartialEq, Eq)]
 enum Step {
     Done,
@@ -40,23 +40,19 @@ enum Step {
     SinkFault,
 }
 
-fn emit<O: Sink>(out: &mut O, bytes: &[u8]) -> Result<(), Failed>
-    ensures ok { OnOk result (AllWritten bytes.now
-        (record { written = O.written out.old; faults = O.faults out.old }) (record { written = O.written out.new; faults = O.faults out.new })) }
-    ensures err { OnErr result (BrokenOff bytes.now
-        (record { written = O.written out.old; faults = O.faults out.old }) (record { written = O.written out.new; faults = O.faults out.new })) }
+fn emit<O: Sink>(out: &mut O, bytes: &[u8]) -> Step
+    ensures { Writes (Some bytes.now) result
+        (record { written = O.written out.old; faults = O.faults out.old }) (record { written = O.written out.new; faults = O.faults out.new }) }
 {
     match put_all(out, bytes) {
-        Ok(()) => Ok(()),
-        Err(failed) => Err(failed),
+        Ok(()) => Step::Done,
+        Err(_) => Step::SinkFault,
     }
 }
 
-fn write_value<O: Sink>(out: &mut O, value: Value) -> Result<(), Failed>
-    ensures ok { OnOk result (AllWritten (text_of value)
-        (record { written = O.written out.old; faults = O.faults out.old }) (record { written = O.written out.new; faults = O.faults out.new })) }
-    ensures err { OnErr result (BrokenOff (text_of value)
-        (record { written = O.written out.old; faults = O.faults out.old }) (record { written = O.written out.new; faults = O.faults out.new })) }
+fn write_value<O: Sink>(out: &mut O, value: Value) -> Step
+    ensures { Writes (Some (text_of value)) result
+        (record { written = O.written out.old; faults = O.faults out.old }) (record { written = O.written out.new; faults = O.faults out.new }) }
 {
     match value {
         Value::Null => emit(out, b""),
@@ -67,57 +63,112 @@ fn write_value<O: Sink>(out: &mut O, value: Value) -> Result<(), Failed>
     }
 }
 
-fn echo<O: Sink>(alloc: Global, values: &[Value], parts: &[Sum<Atom>], out: &mut O) -> Step
-    ensures { Executes (echoed values.now (map sum_view parts.now)) result values.now
+/// The text of the token at a place; past the end there is none.
+fn text<'a>(tokens: &'a Tokens, at: usize) -> &'a [u8]
+    ensures { result.now ≡ text_at (texts_of tokens.now) at }
+{
+    if at < tokens.len() {
+        tokens.text(at)
+    } else {
+        &[]
+    }
+}
+
+fn write_part<O: Sink>(
+    alloc: Global,
+    tokens: &Tokens,
+    values: &[Value],
+    part: &Part,
+    out: &mut O,
+) -> Step
+    ensures { Writes (part_text (texts_of tokens.now) values.now (part_view part.now)) result
+        (record { written = O.written out.old; faults = O.faults out.old }) (record { written = O.written out.new; faults = O.faults out.new }) }
+{
+    match part {
+        Part::Text(at) => emit(out, text(tokens, *at)),
+        Part::Value(sum) => match evaluate(alloc, values, sum) {
+            Some(value) => write_value(out, value),
+            None => Step::Overflow,
+        },
+    }
+}
+
+fn echo<O: Sink>(
+    alloc: Global,
+    tokens: &Tokens,
+    values: &[Value],
+    parts: &[Part],
+    out: &mut O,
+) -> Step
+    ensures { Executes (echoed (texts_of tokens.now) values.now (map part_view parts.now)) result values.now
         (record { written = O.written out.old; faults = O.faults out.old }) (record { written = O.written out.new; faults = O.faults out.new }) }
 {
     for part in parts {
-        let Some(value) = evaluate(alloc, values, part) else {
-            return Step::Overflow;
-        };
-        let Ok(()) = write_value(out, value) else {
-            return Step::SinkFault;
-        };
+        match write_part(alloc, tokens, values, part, out) {
+            Step::Done => {}
+            Step::Overflow => return Step::Overflow,
+            Step::SinkFault => return Step::SinkFault,
+        }
     }
     Step::Done
 }
 
-fn assign(alloc: Global, values: &mut [Value], number: u32, sum: &Sum<Atom>) -> Step
+fn assign(alloc: Global, values: &mut [Value], number: usize, sum: &Sum<Atom>) -> Step
     ensures { Assigns (assigned values.old number (evaluated values.old (sum_view sum.now))) result values.new }
 {
     let Some(value) = evaluate(alloc, values, sum) else {
         return Step::Overflow;
     };
-    let place = number as usize;
-    if place < values.len() {
-        values[place] = value;
+    if number < values.len() {
+        values[number] = value;
     }
     Step::Done
 }
 
-fn execute<O: Sink>(alloc: Global, values: &mut [Value], action: &Action, out: &mut O) -> Step
-    ensures { Executes (step values.old (command_view action.now)) result values.new
+fn execute<O: Sink>(
+    alloc: Global,
+    tokens: &Tokens,
+    values: &mut [Value],
+    action: &Action,
+    out: &mut O,
+) -> Step
+    ensures { Executes (step (texts_of tokens.now) values.old (command_view action.now)) result values.new
         (record { written = O.written out.old; faults = O.faults out.old }) (record { written = O.written out.new; faults = O.faults out.new }) }
 {
     match action {
         Action::Assign(number, sum) => assign(alloc, values, *number, sum),
-        Action::Echo(parts) => echo(alloc, values, parts.as_slice(), out),
+        Action::Echo(parts) => echo(alloc, tokens, values, parts.as_slice(), out),
+        Action::Inline(at) => emit(out, text(tokens, *at)),
+        Action::Empty => Step::Done,
     }
 }
 
+fn wants_tick(action: &Action) -> bool
+    ensures { result ≡ takes_tick (command_view action.now) }
+{
+    !matches!(action, Action::Empty)
+}
+
 /// Runs the statements over the values of the variables, with an allowance of ticks.
+///
+/// The tokens are those of the script: texts are written from there and not copied. At a place past
+/// their end there is no text, and nothing is written.
 pub fn walk<O: Sink>(
     alloc: Global,
+    tokens: &Tokens,
     values: &mut [Value],
     statements: &[Statement],
     allowance: u64,
     out: &mut O,
 ) -> Walked
-    ensures { Walks (run allowance 0 values.old (map statement_view statements.now)) result.stop result.ticks
+    ensures { Walks (run (texts_of tokens.now) allowance 0 values.old (map statement_view statements.now)) result.stop result.ticks
         (record { written = O.written out.old; faults = O.faults out.old }) (record { written = O.written out.new; faults = O.faults out.new }) }
 {
     let mut ticks = 0;
     for statement in statements {
+        if !wants_tick(&statement.action) {
+            continue;
+        }
         if ticks >= allowance {
             return Walked {
                 stop: Stop::Cut,
@@ -125,7 +176,7 @@ pub fn walk<O: Sink>(
             };
         }
         ticks += 1;
-        let stop = match execute(alloc, values, &statement.action, out) {
+        let stop = match execute(alloc, tokens, values, &statement.action, out) {
             Step::Done => continue,
             Step::Overflow => Stop::Overflow(statement.line),
             Step::SinkFault => Stop::SinkFault,

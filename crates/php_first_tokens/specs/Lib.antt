@@ -1,3 +1,2 @@
-pub mod Bytes
-pub mod Cut
-pub mod Steps
+pub mod Lexemes
+pub mod Examples

@@ -1,14 +1,11 @@
-// The tokens of the first language that runs: integer variables, sums and `echo`.
+// The tokens of the first language that runs, taken from those of the whole one.
 #![tactic(auto)]
 
-mod bytes;
-mod cutter;
-mod lexemes;
+mod narrowing;
 mod token;
-mod words;
 
-pub use cutter::cut_file;
-pub use token::{Lexeme, Token, Tokens};
+pub use narrowing::narrow;
+pub use token::{FirstTokens, Lexeme, Token};
 
 #[cfg(test)]
 mod tests;

@@ -8,7 +8,9 @@ use Rattle.php_first_tree.specs.declared.Term.{Term}
 use Rattle.php_first_tree.specs.declared.Sign.{Sign}
 use Rattle.php_first_tree.specs.declared.Sign.TheVariants.{Plus, Minus}
 use Rattle.php_first_tree.specs.declared.Action.{Action}
-use Rattle.php_first_tree.specs.declared.Action.TheVariants.{Assign, Echo}
+use Rattle.php_first_tree.specs.declared.Action.TheVariants.{Assign, Echo, Inline, Empty}
+use Rattle.php_first_tree.specs.declared.Part as tree_part
+use Rattle.php_first_tree.specs.declared.Part.TheVariants.{Value, Text}
 use Rattle.php_first_tree.specs.declared.Statement as tree
 
 pub data Expression : Type 0 where
@@ -65,19 +67,32 @@ product_view p = product (product_parts p)
 abbrev pub sum_view : Sum Atom → Expression
 sum_view s = sum (sum_parts s)
 
--- What a statement does: it gives a variable a value, or writes values.
+-- A part of an `echo`: the value of an expression, or the text of the token at a place.
+pub data Part : Type 0 where
+  value : Expression → Part
+  text : ℕ → Part
+
+-- What a statement does: it gives a variable a value, writes parts, writes the text of the token at a place, or does nothing.
 pub data Command : Type 0 where
   assign : ℕ → Expression → Command
-  echo : List Expression → Command
+  echo : List Part → Command
+  inline : ℕ → Command
+  empty : Command
 
 -- a statement, and the line of its first token
 pub record Statement : Type 0 where
   pub line : ℕ
   pub command : Command
 
+abbrev pub part_view : tree_part.Part → Part
+part_view (Value s) = value (sum_view s)
+part_view (Text at) = text at
+
 abbrev pub command_view : Action → Command
 command_view (Assign k s) = assign k (sum_view s)
-command_view (Echo ss) = echo (map sum_view ss)
+command_view (Echo ps) = echo (map part_view ps)
+command_view (Inline at) = inline at
+command_view Empty = empty
 
 abbrev pub statement_view : tree.Statement → Statement
 statement_view s = record { line = s.line; command = command_view s.action }

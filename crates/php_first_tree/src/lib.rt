@@ -1,4 +1,4 @@
-// The trees of the first language that runs: integer variables, sums and `echo`.
+// The trees of the first language that runs: integer variables, sums, `echo`, and text outside the tags.
 #![tactic(auto)]
 
 use sqlite_items::{Boxed, Items};
@@ -9,7 +9,7 @@ pub enum Atom {
     /// An integer as written, so at least 0.
     Int(i64),
     /// A variable, by its number: the place of its name in the names of the script.
-    Variable(u32),
+    Variable(usize),
     /// A sum in parentheses.
     Group(Boxed<Sum<Atom>>),
 }
@@ -53,14 +53,27 @@ pub struct Statement {
 #[derive(Drop)]
 pub enum Action {
     /// The variable of this number takes the value of the sum.
-    Assign(u32, Sum<Atom>),
-    /// The values are written, each before the next is evaluated. There is at least one.
-    Echo(Items<Sum<Atom>>),
+    Assign(usize, Sum<Atom>),
+    /// The parts are written, each before the next is evaluated. There is at least one.
+    Echo(Items<Part>),
+    /// The text of the token at this place is written: it stands outside the tags.
+    Inline(usize),
+    /// A semicolon alone. It does nothing and takes no tick.
+    Empty,
+}
+
+/// A part of an `echo`.
+#[derive(Drop)]
+pub enum Part {
+    /// The value of the sum is written.
+    Value(Sum<Atom>),
+    /// The text of the token at this place is written: a text literal.
+    Text(usize),
 }
 
 /// A script. The variables are numbered in the order in which they first occur.
 #[derive(Drop)]
 pub struct Script {
-    pub variables: u32,
+    pub variables: usize,
     pub statements: Items<Statement>,
 }

@@ -1,6 +1,7 @@
 pub mod CommentLemmas
 pub mod CutLemmas
 pub mod KeepLemmas
+pub mod KeywordLemmas
 pub mod NumberLemmas
 pub mod ReadingLemmas
 pub mod RunLemmas

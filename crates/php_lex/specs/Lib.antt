@@ -13,6 +13,7 @@ pub mod Pieces
 pub mod Punctuators
 pub mod Reading
 pub mod Search
+pub mod Simple
 pub mod Stepping
 pub mod Templates
 pub mod Token

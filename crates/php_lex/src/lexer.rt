@@ -12,7 +12,8 @@ ghost use Rattle.php_lex.specs.Stepping.{Steps};
 use crate::fail::LexFail;
 use crate::modes::{Mode, Modes};
 use crate::pieces::{Change, next_piece};
-use crate::tokens::{Builder, Tokens, put};
+use crate::simple::{blanks, simple_piece};
+use crate::tokens::{Builder, Tokens, put, put_simple};
 use php_base::NoMemory;
 use std::alloc::Global;
 
@@ -59,7 +60,20 @@ fn step<'a>(
     requires kept { AllWithin (length out.old.decoded.items) out.old.entries.items }
     ensures { Steps line text.now modes.old modes.new out.old out.new result }
 {
-    let piece = match next_piece(modes.mode(), line, text) {
+    let mode = modes.mode();
+    if let Mode::Script = mode {
+        let blanks = blanks(text);
+        if blanks > 0 {
+            return Ok(blanks);
+        }
+        if let Some(simple) = simple_piece(line, text) {
+            let Ok(()) = put_simple(simple, line, out) else {
+                return Err(LexFail::NoMemory);
+            };
+            return Ok(simple.len);
+        }
+    }
+    let piece = match next_piece(mode, line, text) {
         Ok(piece) => piece,
         Err(fault) => return Err(fault),
     };

@@ -6,14 +6,18 @@ mod comments;
 mod escapes;
 mod fail;
 mod heredocs;
+mod keywords;
 mod kind;
 mod laws;
 mod lexer;
 mod modes;
 mod numbers;
+mod part_pieces;
 mod pieces;
 mod punctuators;
+mod script_pieces;
 mod search;
+mod simple;
 mod tokens;
 mod words;
 

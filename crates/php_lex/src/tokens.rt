@@ -7,12 +7,14 @@ ghost use Rattle.php_lex.specs.Entry.{AllWithin, Keeps, Adds, tokens_in};
 ghost use Rattle.php_lex.specs.PieceKept.{draft_kept, piece_kept, text_kept};
 ghost use Rattle.php_lex.specs.Reading.{token_if, token_of_draft, tokens_of, on_line};
 ghost use Rattle.php_lex.specs.Pieces.{draft};
+ghost use Rattle.php_lex.specs.Simple.{simple_kept};
 ghost use Rattle.php_lex.specs.Token.{token_at, the_token};
 
 use crate::bytes::byte;
 use crate::escapes::push_text;
 use crate::kind::TokenKind;
 use crate::pieces::{Draft, Piece, Wording};
+use crate::simple::Simple;
 use memchr::memchr;
 use php_base::NoMemory;
 use std::alloc::Global;
@@ -210,6 +212,19 @@ pub(crate) fn put<'a>(piece: Piece<'a>, line: u32, out: &mut Builder<'a>) -> Res
     mark_if(piece.opens_part, TokenKind::Part, line, out)?;
     push_if(piece.token, line, out)?;
     mark_if(piece.ends_part, TokenKind::EndPart, line, out)
+}
+
+/// Adds the token of a simple piece.
+pub(crate) fn put_simple<'a>(
+    piece: Simple<'a>,
+    line: u32,
+    out: &mut Builder<'a>,
+) -> Result<(), NoMemory>
+    requires { AllWithin (length out.old.decoded.items) out.old.entries.items }
+    ensures { OnOk result (Adds (tokens_of line (simple_kept piece.entry))
+        out.old.entries.items out.new.entries.items out.old.decoded.items out.new.decoded.items) }
+{
+    push(piece.kind, Wording::Plain(piece.text), piece.int, line, out)
 }
 
 impl<'a> Builder<'a> {

@@ -1,90 +1,12 @@
 // Names, keywords and the words of casts.
 
 ghost use Rattle.std.specs.Prelude.{◌≡◌, ◌<◌, ◌≤◌, ◌+◌, length, slice_index, true, map, IfSome};
-ghost use Rattle.std.specs.Str.{str_eq_ignore_ascii_case};
-ghost use Rattle.php_lex.specs.Bytes.{is_name_start};
+ghost use Rattle.php_lex.specs.Bytes.{is_name_start, name_len};
 ghost use Rattle.php_lex.specs.Words as spec;
 
 use crate::bytes::{Class, byte, name_len, run};
+use crate::keywords::{is_word, keyword};
 use crate::kind::{Cast, Keyword, TokenKind};
-
-const KEYWORDS: [(&[u8], Keyword); 75] = [
-    (b"abstract", Keyword::Abstract),
-    (b"and", Keyword::And),
-    (b"array", Keyword::Array),
-    (b"as", Keyword::As),
-    (b"break", Keyword::Break),
-    (b"callable", Keyword::Callable),
-    (b"case", Keyword::Case),
-    (b"catch", Keyword::Catch),
-    (b"class", Keyword::Class),
-    (b"clone", Keyword::Clone),
-    (b"const", Keyword::Const),
-    (b"continue", Keyword::Continue),
-    (b"declare", Keyword::Declare),
-    (b"default", Keyword::Default),
-    (b"do", Keyword::Do),
-    (b"echo", Keyword::Echo),
-    (b"else", Keyword::Else),
-    (b"elseif", Keyword::ElseIf),
-    (b"empty", Keyword::Empty),
-    (b"endfor", Keyword::EndFor),
-    (b"endforeach", Keyword::EndForeach),
-    (b"endif", Keyword::EndIf),
-    (b"endswitch", Keyword::EndSwitch),
-    (b"endwhile", Keyword::EndWhile),
-    (b"enddeclare", Keyword::EndDeclare),
-    (b"eval", Keyword::Eval),
-    (b"die", Keyword::Exit),
-    (b"exit", Keyword::Exit),
-    (b"extends", Keyword::Extends),
-    (b"final", Keyword::Final),
-    (b"finally", Keyword::Finally),
-    (b"for", Keyword::For),
-    (b"foreach", Keyword::Foreach),
-    (b"function", Keyword::Function),
-    (b"global", Keyword::Global),
-    (b"goto", Keyword::Goto),
-    (b"if", Keyword::If),
-    (b"implements", Keyword::Implements),
-    (b"include", Keyword::Include),
-    (b"include_once", Keyword::IncludeOnce),
-    (b"instanceof", Keyword::InstanceOf),
-    (b"insteadof", Keyword::InsteadOf),
-    (b"interface", Keyword::Interface),
-    (b"isset", Keyword::IsSet),
-    (b"list", Keyword::List),
-    (b"namespace", Keyword::Namespace),
-    (b"new", Keyword::New),
-    (b"or", Keyword::Or),
-    (b"print", Keyword::Print),
-    (b"private", Keyword::Private),
-    (b"protected", Keyword::Protected),
-    (b"public", Keyword::Public),
-    (b"require", Keyword::Require),
-    (b"require_once", Keyword::RequireOnce),
-    (b"return", Keyword::Return),
-    (b"static", Keyword::Static),
-    (b"switch", Keyword::Switch),
-    (b"throw", Keyword::Throw),
-    (b"trait", Keyword::Trait),
-    (b"try", Keyword::Try),
-    (b"unset", Keyword::Unset),
-    (b"use", Keyword::Use),
-    (b"var", Keyword::Var),
-    (b"while", Keyword::While),
-    (b"xor", Keyword::Xor),
-    (b"yield", Keyword::Yield),
-    (b"__halt_compiler", Keyword::HaltCompiler),
-    (b"__CLASS__", Keyword::ClassName),
-    (b"__FUNCTION__", Keyword::FunctionName),
-    (b"__LINE__", Keyword::LineNumber),
-    (b"__METHOD__", Keyword::MethodName),
-    (b"__FILE__", Keyword::FileName),
-    (b"__DIR__", Keyword::DirectoryName),
-    (b"__NAMESPACE__", Keyword::NamespaceName),
-    (b"__TRAIT__", Keyword::TraitName),
-];
 
 const CAST_WORDS: [(&[u8], Cast); 12] = [
     (b"int", Cast::Int),
@@ -101,24 +23,6 @@ const CAST_WORDS: [(&[u8], Cast); 12] = [
     (b"binary", Cast::Other),
 ];
 
-fn is_word(word: &[u8], expected: &[u8]) -> bool
-    ensures { result ≡ str_eq_ignore_ascii_case expected.now word.now }
-{
-    expected.eq_ignore_ascii_case(word)
-}
-
-fn keyword_in(mut table: &[(&[u8], Keyword)], word: &[u8]) -> Option<Keyword>
-    ensures { result ≡ spec.look_up (map (λ row. (row.0.now, row.1)) table.entry.now) word.now }
-{
-    while let [row, rest @ ..] = table {
-        if is_word(word, row.0) {
-            return Some(row.1);
-        }
-        table = rest;
-    }
-    None
-}
-
 fn cast_in(mut table: &[(&[u8], Cast)], word: &[u8]) -> Option<Cast>
     ensures { result ≡ spec.look_up (map (λ row. (row.0.now, row.1)) table.entry.now) word.now }
 {
@@ -129,12 +33,6 @@ fn cast_in(mut table: &[(&[u8], Cast)], word: &[u8]) -> Option<Cast>
         table = rest;
     }
     None
-}
-
-fn keyword(word: &[u8]) -> Option<Keyword>
-    ensures { result ≡ spec.look_up spec.keywords word.now }
-{
-    keyword_in(&KEYWORDS, word)
 }
 
 fn cast_word(word: &[u8]) -> Option<Cast>
@@ -163,13 +61,15 @@ fn is_word_at(text: &[u8], at: usize, expected: &[u8]) -> bool
     is_word(&text[at..at + name_len(text, at)], expected)
 }
 
-// The length of `yield`, blanks and the whole word `from` at the front, or 0.
-#[tactic(auto, unfolding(crate::specs::Words::yield_from_len))]
-fn yield_from_len(text: &[u8]) -> usize
+// The length of `yield`, blanks and the whole word `from` at the front, or 0. So many bytes are the first word.
+#[tactic(auto, unfolding(crate::specs::Words::yield_from_len, crate::specs::Words::is_word_at))]
+fn yield_from_len(text: &[u8], len: usize) -> usize
+    requires word { len ≡ name_len text.now 0 }
+    requires within { len ≤ length text.now }
     ensures value { result ≡ spec.yield_from_len text.now }
     ensures within { result ≤ length text.now }
 {
-    if !is_word_at(text, 0, b"yield") {
+    if !is_word(&text[..len], b"yield") {
         return 0;
     }
     let second = 5 + run(Class::Blank, text, 5);
@@ -187,11 +87,11 @@ pub(crate) fn word(text: &[u8]) -> (TokenKind, usize)
     ensures value { result ≡ spec.word text.now }
     ensures within { (0 < result.1) × (result.1 ≤ length text.now) }
 {
-    let yield_from = yield_from_len(text);
+    let len = name_len(text, 0);
+    let yield_from = yield_from_len(text, len);
     if yield_from > 0 {
         return (TokenKind::Keyword(Keyword::YieldFrom), yield_from);
     }
-    let len = name_len(text, 0);
     (word_kind(&text[..len]), len)
 }
 

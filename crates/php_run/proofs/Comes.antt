@@ -1,14 +1,18 @@
 -- What runs and files come to, held against what is owed.
-use Rattle.std.proofs.Common.{◌≡◌, ℕ, ◌+◌, ◌<◌, ◌≤◌, List, length, take, min, Option, Some, None, refl, sym, ap, ◌∙◌, subst, arith}
+use Rattle.std.proofs.Common.{◌≡◌, ◌≢◌, ◌⊎◌, inl, inr, Err, ℕ, ◌+◌, ◌<◌, ◌≤◌, List, length, take, min, Option, Some, None, refl, sym, ap, ◌∙◌, subst, arith}
 use Rattle.std.proofs.lemmas.List.{take_all, length-take}
 use Rattle.php_base.specs.Files.{File, file_of, TellsNone}
 use Rattle.php_first_run.specs.Running.{Outcome, Ending, completed, overflowed, cut_off}
-use Rattle.php_first_run.specs.Walking.{Stream, IsFront, Ends, Breaks, Walks}
+use Rattle.php_first_run.specs.Walking.{Stream, IsFront, AllWritten, Ends, Breaks, Walks}
 use Rattle.php_first_run.specs.declared.walking.Stop.{Stop}
 use Rattle.php_first_run.specs.declared.walking.Stop.TheVariants.{Done, Overflow, Cut, SinkFault}
 use Rattle.php_run.specs.declared.answer.Answer as program
-use Rattle.php_run.specs.Answer.{Answer, answer_of, ended, IsOwed}
-use Rattle.php_run.specs.Headline.{IsHeld, ComesTo, owed, out_failed, starved, write_fault}
+use Rattle.php_lex.specs.declared.fail.LexFail.{LexFail}
+use Rattle.php_lex.specs.declared.fail.LexFail.TheVariants as fail
+use Rattle.php_lex.specs.Reading.{tokens, Lexes}
+use Rattle.php_run.specs.declared.report.Kind.TheVariants as kind
+use Rattle.php_run.specs.Answer.{Answer, answer_of, ended, faulty, no_tokens, read, without_run, IsOwed}
+use Rattle.php_run.specs.Headline.{IsHeld, ComesTo, owed, out_failed, out_of_memory, starved, write_fault}
 use Rattle.php_run.specs.Shown.{shown, IsAfter, RunComesTo, ran, broke, hungry}
 use Rattle.php_run.specs.Words.{Request}
 
@@ -96,3 +100,25 @@ held_bytes (Some files) request given short told there = by_look_up (file_of fil
   by_look_up : (found : Option (List ℕ)) → file_of files request.file ≡ found → (whole : List ℕ) × (given ≡ take 1048577 whole) × IsHeld (Some files) (Some request) (Some whole)
   by_look_up None same = absurd (there (files, refl, same))
   by_look_up (Some bytes) same = (bytes, told files bytes refl same, sym same)
+
+-- a fault of the lexer is want of memory, or it isn't
+memory_or_not : (fault : LexFail) → (fault ≡ fail.NoMemory) ⊎ (fault ≢ fail.NoMemory)
+memory_or_not (fail.Unclosed line) = inr (λ h. cc)
+memory_or_not (fail.BadByte line) = inr (λ h. cc)
+memory_or_not (fail.FloatLiteral line) = inr (λ h. cc)
+memory_or_not (fail.IntTooLarge line) = inr (λ h. cc)
+memory_or_not (fail.BadEscape line) = inr (λ h. cc)
+memory_or_not fail.NoMemory = inl refl
+
+-- the lexer gave no tokens
+pub comes_by_fault : (request : Request) (file : List ℕ) (fault : LexFail) (shelf shelf' : ℕ) (out : Stream) (a : Answer) →
+    length file ≤ 1048576 → Lexes (Err fault) (tokens file) → AllWritten a.output out out →
+    (fault ≡ fail.NoMemory → a ≡ without_run kind.NoMemory 70 out_of_memory) → (fault ≢ fail.NoMemory → a ≡ no_tokens fault) →
+    ComesTo (Some request) (Some file) shelf shelf' out out a
+comes_by_fault request file fault shelf shelf' out a short lexed nothing on_memory on_fault = elim (memory_or_not fault) [
+  | inl memory ↦ starved (on_memory memory) refl
+  | inr other ↦ elim lexed [
+    | inl memory ↦ absurd (other memory)
+    | inr told ↦ owed (read short (faulty fault told other (on_fault other))) nothing
+  ]
+]

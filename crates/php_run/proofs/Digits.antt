@@ -3,7 +3,7 @@ use Rattle.std.proofs.Common.{◌≡◌, ℕ, ◌+◌, ◌-◌, ◌*◌, ◌<◌
 use Rattle.std.specs.List.{list_all}
 use Rattle.std.proofs.lemmas.Bool.{leb-true}
 use Rattle.std.proofs.Math.Seq.{drop-cons}
-use Rattle.php_first_tokens.specs.Bytes.{is_digit, numeral, numeral_from}
+use Rattle.php_run.specs.Numerals.{is_digit, numeral, numeral_from}
 
 -- a test of two parts that holds
 pub both : (a b : Bool) → (a && b) ≡ true → (a ≡ true) × (b ≡ true)

@@ -1,3 +1,4 @@
+pub mod Numerals
 pub mod Words
 pub mod Script
 pub mod Answer
@@ -5,3 +6,4 @@ pub mod Headline
 pub mod Asked
 pub mod Message
 pub mod Shown
+pub mod Examples

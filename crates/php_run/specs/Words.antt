@@ -1,7 +1,7 @@
 -- What the words of the command line ask for.
 use Rattle.std.specs.Prelude.{ℕ, ◌^◌, Bool, false, ◌&&◌, not, ◌==◌, nat_lt, List, [], ◌∷◌, Option, Some, None, codes, if◌then◌else◌}
 use Rattle.std.specs.Str.{bytes_eq}
-use Rattle.php_first_tokens.specs.Bytes.{numeral, is_numeral}
+use Rattle.php_run.specs.Numerals.{numeral, is_numeral}
 
 -- a file to run, and the greatest number of ticks
 pub record Request : Type 0 where

@@ -1,3 +1,4 @@
+use php_lex::LexFail;
 use php_value::Fault;
 
 /// How a call ended.
@@ -28,6 +29,8 @@ pub enum Kind {
 /// Why a file is not run.
 #[derive(Clone, Copy, Debug, PartialEq, Eq)]
 pub enum Refusal {
+    /// The file has no tokens: its first fault, which is never want of memory.
+    Lex(LexFail),
     /// The file has a form that can't be run yet. The number is a line.
     NotYet(u32),
 }

@@ -1,8 +1,10 @@
-ghost use Rattle.std.specs.Prelude.{◌≡◌, ℕ, ◌+◌, ◌≤◌, List, [], Some, IfOk, map, replicate, length, take};
+ghost use Rattle.std.specs.Prelude.{◌≡◌, ℕ, ◌+◌, ◌≤◌, List, [], Some, Ok, IfOk, map, replicate, length, take};
 ghost use Rattle.php_first_tree.specs.Expression.{statement_view};
 ghost use Rattle.php_base.specs.Files.{File};
 ghost use Rattle.php_first_run.specs.declared.value.Value.TheVariants.{Null};
-ghost use Rattle.php_run.specs.Answer.{answer_of, run_of};
+ghost use Rattle.php_first_run.specs.Running.{texts_of};
+ghost use Rattle.php_lex.specs.Reading as Reading;
+ghost use Rattle.php_run.specs.Answer.{answer_of, most_bytes, run_of};
 ghost use Rattle.php_run.specs.Asked.{asked};
 ghost use Rattle.php_run.specs.Headline.{Answers, Called, ComesTo, IsReported, keeps_kind};
 ghost use Rattle.php_run.specs.Script.{IsScript};
@@ -10,7 +12,8 @@ ghost use Rattle.php_run.specs.Shown.{RunComesTo, shown};
 ghost use Rattle.php_run.specs.Words.{shape};
 
 use crate::answer::{
-    Answer, after_run, file_missing, file_too_long, no_use, refused, shelf_failed, starved,
+    Answer, after_fault, after_run, file_missing, file_too_long, no_use, refused, shelf_failed,
+    starved,
 };
 use crate::message::put_message;
 use crate::report::{Kind, Report};
@@ -19,29 +22,31 @@ use crate::words::{Request, requested};
 use php_base::{NoMemory, Shelf, ShelfFail, Sink};
 use php_first_run::{Value, walk};
 use php_first_tree::Script;
+use php_lex::{Tokens, lex};
 use std::alloc::Global;
 
 /// The greatest length of a script, in bytes.
 pub const MOST_BYTES: usize = 1_048_576;
 
-fn nulls(alloc: Global, count: u32) -> Result<Vec<Value>, NoMemory>
+fn nulls(alloc: Global, count: usize) -> Result<Vec<Value>, NoMemory>
     ensures { IfOk result (λ values. values.items ≡ replicate count Null) }
 {
-    let mut values = Vec::with_capacity(alloc, count as usize)?;
+    let mut values = Vec::with_capacity(alloc, count)?;
     for _made in 0..count {
         values.push(Value::Null)?;
     }
     Ok(values)
 }
 
-/// Runs a script from its beginning.
+/// Runs a script from its beginning, with the texts of its tokens.
 fn run_script<O: Sink>(
     alloc: Global,
+    tokens: &Tokens,
     script: &Script,
     allowance: u64,
     out: &mut O,
 ) -> Answer<'static>
-    ensures { (output : List ℕ) × RunComesTo (answer_of (run_of allowance script.now.variables (map statement_view script.now.statements)))
+    ensures { (output : List ℕ) × RunComesTo (answer_of (run_of (texts_of tokens.now) allowance script.now.variables (map statement_view script.now.statements)))
         (record { written = O.written out.old; faults = O.faults out.old }) (record { written = O.written out.new; faults = O.faults out.new })
         (shown result output) }
 {
@@ -50,6 +55,7 @@ fn run_script<O: Sink>(
     };
     let walked = walk(
         alloc,
+        tokens,
         &mut values,
         script.statements.as_slice(),
         allowance,
@@ -58,6 +64,26 @@ fn run_script<O: Sink>(
     after_run(walked)
 }
 
+/// Reads the script that the tokens of the file are, and runs it.
+fn answer_tokens<O: Sink>(
+    alloc: Global,
+    request: &Request,
+    tokens: &Tokens,
+    out: &mut O,
+) -> Answer<'static>
+    ensures { (file : List ℕ) (shelf shelf_after : ℕ) → length file ≤ most_bytes → Reading.tokens file ≡ Ok tokens.now → (output : List ℕ)
+        × ComesTo (Some (record { file = request.now.file.now; allowance = request.now.allowance })) (Some file) shelf shelf_after
+        (record { written = O.written out.old; faults = O.faults out.old }) (record { written = O.written out.new; faults = O.faults out.new })
+        (shown result output) }
+{
+    match read_script(alloc, tokens) {
+        Ok(Some(script)) => run_script(alloc, tokens, &script, request.allowance, out),
+        Ok(None) => refused(),
+        Err(NoMemory) => starved(),
+    }
+}
+
+/// The tokens come first: a fault of the lexer is the answer, whatever stands before it.
 fn answer_bytes<'a, O: Sink>(
     alloc: Global,
     request: &Request<'a>,
@@ -72,10 +98,9 @@ fn answer_bytes<'a, O: Sink>(
     if bytes.len() > MOST_BYTES {
         return file_too_long(request.file);
     }
-    match read_script(alloc, bytes) {
-        Ok(Some(script)) => run_script(alloc, &script, request.allowance, out),
-        Ok(None) => refused(),
-        Err(NoMemory) => starved(),
+    match lex(alloc, bytes) {
+        Ok(tokens) => answer_tokens(alloc, request, &tokens, out),
+        Err(fault) => after_fault(fault),
     }
 }
 
@@ -162,10 +187,13 @@ fn report_answer<E: Sink>(answer: &Answer, err: &mut E) -> Report
     }
 }
 
-/// Runs the command that the words ask for: fetches the file from the shelf, reads it, runs it with
-/// its output on `out`, and writes the error text of the ending, if it has one, to `err`.
+/// Runs the command that the words ask for: fetches the file from the shelf, cuts it into tokens, reads
+/// the script that they are, runs it with its output on `out`, and writes the error text of the ending,
+/// if it has one, to `err`.
 ///
-/// The words are those after the program's name. Whatever they are, the call returns a report.
+/// The words are those after the program's name. Whatever they are, the call returns a report. A file
+/// that is not too long is refused for the first fault of the lexer (`Refusal::Lex`), where it has one;
+/// else as `Refusal::NotYet`, where its tokens are no script of the language that runs today.
 pub fn run_php<S: Shelf, O: Sink, E: Sink>(
     alloc: Global,
     words: &Vec<String>,

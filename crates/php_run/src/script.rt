@@ -1,13 +1,14 @@
-ghost use Rattle.std.specs.Prelude.{◌≡◌, ◌≤◌, ℕ, List, length, map, IfOk, IfSome};
+ghost use Rattle.std.specs.Prelude.{◌≡◌, ℕ, List, map, IfOk, IfSome};
 ghost use Rattle.std.specs.List.{list_all};
 ghost use Rattle.php_first_tree.specs.Expression.{Statement as StatementMeant, statement_view};
-ghost use Rattle.php_first_tokens.specs.Steps.{names_of};
+ghost use Rattle.php_first_tokens.specs.Lexemes.{names_of};
 ghost use Rattle.php_run.specs.Script.{IsRead, IsScript, is_allowed, permits};
 
 use php_base::NoMemory;
 use php_first_parse::parse;
-use php_first_tokens::cut_file;
+use php_first_tokens::narrow;
 use php_first_tree::Script;
+use php_lex::Tokens;
 use std::alloc::Global;
 
 /// The greatest number of different variables in a script.
@@ -31,24 +32,25 @@ fn are_permitted(names: &[&[u8]]) -> bool
     names.len() <= MOST_VARIABLES && are_allowed(names)
 }
 
-/// Reads a script of the language that runs today. `None` where the file is none.
-pub fn read_script(alloc: Global, file: &[u8]) -> Result<Option<Script>, NoMemory>
-    requires { length file.now ≤ 1048576 }
-    ensures found { IfOk result (λ found. IfSome found (λ s. IsScript file.now s.variables (map statement_view s.statements))) }
-    ensures only { (variables : ℕ) (statements : List StatementMeant) → IsScript file.now variables statements →
+/// Reads the script of the language that runs today that the tokens of a file are. `None` where they
+/// are none: a token is none of that language, a variable's name isn't permitted, or there are too many,
+/// or the tokens spell no statements.
+pub fn read_script(alloc: Global, tokens: &Tokens) -> Result<Option<Script>, NoMemory>
+    ensures found { IfOk result (λ found. IfSome found (λ s. IsScript tokens.now s.variables (map statement_view s.statements))) }
+    ensures only { (variables : ℕ) (statements : List StatementMeant) → IsScript tokens.now variables statements →
         IfOk result (λ found. IsRead found variables statements) }
 {
-    let Some(tokens) = cut_file(alloc, file)? else {
+    let Some(first) = narrow(alloc, tokens)? else {
         return Ok(None);
     };
-    if !are_permitted(tokens.names.as_slice()) {
+    if !are_permitted(first.names.as_slice()) {
         return Ok(None);
     }
-    let Some(statements) = parse(alloc, tokens.tokens.as_slice())? else {
+    let Some(statements) = parse(alloc, first.tokens.as_slice())? else {
         return Ok(None);
     };
     Ok(Some(Script {
-        variables: tokens.names.len() as u32,
+        variables: first.names.len(),
         statements,
     }))
 }

@@ -1,6 +1,6 @@
 ghost use Rattle.std.specs.Prelude.{◌≡◌, ◌≤◌, ◌^◌, ℕ, List, true, false, None, Some, map, MatchOption};
 ghost use Rattle.std.specs.List.{list_all};
-ghost use Rattle.php_first_tokens.specs.Bytes.{is_digit, is_numeral, numeral};
+ghost use Rattle.php_run.specs.Numerals.{is_digit, is_numeral, numeral};
 ghost use Rattle.php_run.specs.Words.{is_allowance, is_file_name, shape};
 ghost use Rattle.php_run.specs.Asked.{asked};
 

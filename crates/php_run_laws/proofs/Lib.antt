@@ -1,4 +1,3 @@
 pub mod Allowances
-pub mod Fronts
-pub mod Cuts
+pub mod Narrowings
 pub mod Scripts

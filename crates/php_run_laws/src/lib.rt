@@ -5,7 +5,8 @@
 ghost use Rattle.std.specs.Prelude.{◌≡◌, ◌≢◌, ℕ, ◌≤◌, List, Option};
 ghost use Rattle.php_first_tree.specs.Expression.{Statement};
 ghost use Rattle.php_first_tokens.specs.declared.token.Token.{Token};
-ghost use Rattle.php_first_tokens.specs.Cut.{IsCut};
+ghost use Rattle.php_first_tokens.specs.Lexemes.{AreFirst};
+ghost use Rattle.php_lex.specs.Token as whole;
 ghost use Rattle.php_first_run.specs.declared.value.Value.{Value};
 ghost use Rattle.php_first_run.specs.Running.{cut_off, run};
 ghost use Rattle.php_first_run.specs.Walking.{IsFront};
@@ -15,33 +16,32 @@ ghost use Rattle.php_run.specs.Answer.{Answer, run_of, IsOwed};
 
 /// What a run writes with an allowance, it writes with a longer one too, and then perhaps more.
 pub fn longer_allowance_writes_more()
-    ensures from_anywhere { (statements : List Statement) (values : List Value) (ticks less more : ℕ) →
-        less ≤ more → IsFront (run less ticks values statements).output (run more ticks values statements).output }
-    ensures from_the_beginning { (statements : List Statement) (variables less more : ℕ) →
-        less ≤ more → IsFront (run_of less variables statements).output (run_of more variables statements).output }
+    ensures from_anywhere { (texts : List (List ℕ)) (statements : List Statement) (values : List Value) (ticks less more : ℕ) →
+        less ≤ more → IsFront (run texts less ticks values statements).output (run texts more ticks values statements).output }
+    ensures from_the_beginning { (texts : List (List ℕ)) (statements : List Statement) (variables less more : ℕ) →
+        less ≤ more → IsFront (run_of texts less variables statements).output (run_of texts more variables statements).output }
 {}
 
 /// A run that the allowance doesn't cut off is the same with a longer one: its end, its ticks and its output.
 pub fn longer_allowance_keeps_the_end()
-    ensures from_anywhere { (statements : List Statement) (values : List Value) (ticks less more : ℕ) →
-        less ≤ more → ((run less ticks values statements).ending ≢ cut_off) →
-        run more ticks values statements ≡ run less ticks values statements }
-    ensures from_the_beginning { (statements : List Statement) (variables less more : ℕ) →
-        less ≤ more → ((run_of less variables statements).ending ≢ cut_off) →
-        run_of more variables statements ≡ run_of less variables statements }
+    ensures from_anywhere { (texts : List (List ℕ)) (statements : List Statement) (values : List Value) (ticks less more : ℕ) →
+        less ≤ more → ((run texts less ticks values statements).ending ≢ cut_off) →
+        run texts more ticks values statements ≡ run texts less ticks values statements }
+    ensures from_the_beginning { (texts : List (List ℕ)) (statements : List Statement) (variables less more : ℕ) →
+        less ≤ more → ((run_of texts less variables statements).ending ≢ cut_off) →
+        run_of texts more variables statements ≡ run_of texts less variables statements }
 {}
 
-/// A file is cut into tokens in at most one way, and its variables have one list of names.
-pub fn one_cut()
-    ensures { (file : List ℕ) (names other_names : List (List ℕ)) (tokens other_tokens : List Token) →
-        IsCut file names tokens → IsCut file other_names other_tokens →
-        (names ≡ other_names) × (tokens ≡ other_tokens) }
+/// The tokens of a file are tokens of the first language in at most one way.
+pub fn one_narrowing()
+    ensures { (found : List whole.Token) (firsts others : List Token) →
+        AreFirst found firsts → AreFirst found others → firsts ≡ others }
 {}
 
-/// A file spells at most one script.
+/// The tokens of a file spell at most one script.
 pub fn one_script()
-    ensures { (file : List ℕ) (variables other_variables : ℕ) (statements other_statements : List Statement) →
-        IsScript file variables statements → IsScript file other_variables other_statements →
+    ensures { (found : List whole.Token) (variables other_variables : ℕ) (statements other_statements : List Statement) →
+        IsScript found variables statements → IsScript found other_variables other_statements →
         (variables ≡ other_variables) × (statements ≡ other_statements) }
 {}
 

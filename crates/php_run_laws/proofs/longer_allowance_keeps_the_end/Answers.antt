@@ -5,6 +5,6 @@ use Rattle.php_run_laws.proofs.longer_allowance_keeps_the_end.Goals as goal
 
 pub returns : goal.returns
 returns c = record {
-  from_anywhere = run_same;
-  from_the_beginning = λ statements variables less more le ends. run_same statements (replicate variables Null) 0 less more le ends;
+  from_anywhere = λ texts statements. run_same statements texts;
+  from_the_beginning = λ texts statements variables less more le ends. run_same statements texts (replicate variables Null) 0 less more le ends;
 }

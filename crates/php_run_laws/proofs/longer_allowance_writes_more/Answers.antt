@@ -5,6 +5,6 @@ use Rattle.php_run_laws.proofs.longer_allowance_writes_more.Goals as goal
 
 pub returns : goal.returns
 returns c = record {
-  from_anywhere = run_front;
-  from_the_beginning = λ statements variables less more le. run_front statements (replicate variables Null) 0 less more le;
+  from_anywhere = λ texts statements. run_front statements texts;
+  from_the_beginning = λ texts statements variables less more le. run_front statements texts (replicate variables Null) 0 less more le;
 }

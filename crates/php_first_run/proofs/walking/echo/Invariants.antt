@@ -1,6 +1,6 @@
 use Rattle.std.proofs.Common.{map, drop}
-use Rattle.php_first_tree.specs.Expression.{sum_view}
-use Rattle.php_first_run.specs.Running.{echoed}
+use Rattle.php_first_tree.specs.Expression.{part_view}
+use Rattle.php_first_run.specs.Running.{echoed, texts_of}
 use Rattle.php_first_run.proofs.Written.{SoFar}
 use Rattle.php_first_run.proofs.walking.echo.Given as goal
 
@@ -8,5 +8,5 @@ use Rattle.php_first_run.proofs.walking.echo.Given as goal
 abbrev pub invariant-loop-part : goal.invariant-loop-part
 invariant-loop-part g l =
     let s = g.O.Sink in
-    SoFar (echoed l.values (map sum_view l.parts)) (echoed l.values (map sum_view (drop l.part-index l.parts)))
+    SoFar (echoed (texts_of l.tokens) l.values (map part_view l.parts)) (echoed (texts_of l.tokens) l.values (map part_view (drop l.part-index l.parts)))
     (record { written = s.written l.fn.out; faults = s.faults l.fn.out }) (record { written = s.written l.out; faults = s.faults l.out })

@@ -1,6 +1,6 @@
 use Rattle.std.proofs.Common.{map, drop}
 use Rattle.php_first_tree.specs.Expression.{statement_view}
-use Rattle.php_first_run.specs.Running.{run}
+use Rattle.php_first_run.specs.Running.{run, texts_of}
 use Rattle.php_first_run.proofs.Written.{RunSoFar}
 use Rattle.php_first_run.proofs.walking.walk.Given as goal
 
@@ -9,7 +9,7 @@ abbrev pub invariant-loop-statement : goal.invariant-loop-statement
 invariant-loop-statement g l =
     let s = g.O.Sink in record {
       so_far : RunSoFar
-          (run l.allowance 0 l.fn.values (map statement_view l.statements))
-          (run l.allowance l.ticks l.values (map statement_view (drop l.statement-index l.statements)))
+          (run (texts_of l.tokens) l.allowance 0 l.fn.values (map statement_view l.statements))
+          (run (texts_of l.tokens) l.allowance l.ticks l.values (map statement_view (drop l.statement-index l.statements)))
           (record { written = s.written l.fn.out; faults = s.faults l.fn.out }) (record { written = s.written l.out; faults = s.faults l.out });
     }

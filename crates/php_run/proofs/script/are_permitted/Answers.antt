@@ -1,6 +1,6 @@
 use Rattle.std.proofs.Common.{◌&&◌, ◌≤◌, ◌∙◌, length, sym, ap, arith}
 use Rattle.std.specs.List.{list_all}
-use Rattle.php_first_tokens.specs.Steps.{names_of}
+use Rattle.php_first_tokens.specs.Lexemes.{names_of}
 use Rattle.php_run.specs.Script.{is_allowed}
 use Rattle.std.proofs.lemmas.Bool.{le-leb}
 use Rattle.std.proofs.lemmas.List.{length-map}

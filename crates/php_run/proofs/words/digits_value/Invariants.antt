@@ -1,6 +1,6 @@
 use Rattle.std.proofs.Common.{◌≡◌, true, drop}
 use Rattle.std.specs.List.{list_all}
-use Rattle.php_first_tokens.specs.Bytes.{is_digit, numeral, numeral_from}
+use Rattle.php_run.specs.Numerals.{is_digit, numeral, numeral_from}
 use Rattle.php_run.proofs.words.digits_value.Given as goal
 
 -- the value so far, taken on over the digits that are left, is that of all

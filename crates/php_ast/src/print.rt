@@ -1,0 +1,22 @@
+// The token list of a tree, for people who debug.
+
+ghost use Rattle.std.specs.Prelude.{◌≡◌, [], map, IfOk};
+ghost use Rattle.php_ast.specs.Print.{printed_symbol};
+ghost use Rattle.php_ast.specs.Spelling.{spell};
+ghost use Rattle.php_ast.specs.View.{view};
+
+use crate::expression::Expr;
+use crate::printed::Printed;
+use crate::printer::Printer;
+use php_base::NoMemory;
+use std::alloc::Global;
+
+/// The tokens that an expression is spelled with. It need not be proper: the tokens of a tree that
+/// no parser gives may be those of another tree. `NoMemory` comes only for want of memory.
+pub fn print_expr(alloc: Global, e: &Expr) -> Result<Vec<Printed>, NoMemory>
+    ensures { IfOk result (λ tokens. map printed_symbol tokens.items ≡ spell (view e.now) []) }
+{
+    let mut printer = Printer::new(alloc);
+    printer.expression(e)?;
+    Ok(printer.finish())
+}

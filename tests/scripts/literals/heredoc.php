@@ -1,0 +1,5 @@
+<?php echo <<<E
+a\tb
+"c"
+E;
+echo 1;

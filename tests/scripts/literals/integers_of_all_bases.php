@@ -1,0 +1,1 @@
+<?php echo 0x7fffffffffffffff, 0b101, 0777, 0;
