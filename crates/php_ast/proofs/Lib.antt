@@ -49,3 +49,7 @@ mod DeclarationShifts
 mod SignatureTrace
 mod FunctionTrace
 mod MemberTrace
+mod ScriptTrace
+mod PrintWeights
+mod PrintLists
+mod PrintViews

@@ -1,5 +1,5 @@
 -- The nesting that the machine of members counts is that of the tree.
-use Rattle.std.proofs.Common.{◌≡◌, ℕ, ◌+◌, Bool, true, false, Option, Some, None, List, [], ◌∷◌, refl, sym, ◌∙◌, ap}
+use Rattle.std.proofs.Common.{◌≡◌, ℕ, true, false, Option, Some, None, List, [], ◌∷◌, refl, sym, ◌∙◌, ap}
 use Rattle.php_lex.specs.declared.kind.Keyword.{Keyword}
 use Rattle.php_lex.specs.declared.kind.Keyword.TheVariants as word
 use Rattle.php_lex.specs.declared.kind.Punct.TheVariants as mark
@@ -13,7 +13,7 @@ use Rattle.php_ast.specs.Tree as tree
 use Rattle.php_ast.specs.Spelling.{spell, member_symbol}
 use Rattle.php_ast.specs.Nesting.{nests}
 use Rattle.php_ast.specs.Proper.{Proper, IsWord}
-use Rattle.php_ast.specs.Machine.{Nothing, Form, State, expects}
+use Rattle.php_ast.specs.Machine.{Nothing, Form, expects}
 use Rattle.php_ast.specs.Laws.{EndsBefore}
 use Rattle.php_ast.specs.Run.{either, if_some}
 use Rattle.php_ast.specs.TooDeep.{taken, depths_taken}
@@ -27,7 +27,7 @@ use Rattle.php_ast.specs.DeclarationNesting.{joined_nests, modifier_nests, one_n
 use Rattle.php_ast.specs.ProperDeclaration.{IsAlias, IsProperRule, IsProperConstant, IsProperMember}
 use Rattle.php_ast.specs.StatementSign.{ending}
 use Rattle.php_ast.specs.FunctionMachine.{method_form, past_function, advance_function}
-use Rattle.php_ast.specs.MemberMachine.{visibility_of_keyword, Word, Names, Modifiers, Rules, NamesIn, of_use, of_instead, MemberState, past_modifiers, due_trait, past_trait, due_constant, past_constant, in_constant, due_property, past_property, in_property, in_method, due_rule, past_as, past_visibility, due_rule_end, past_member, with_rule, constant_end, property_end, with_constant, with_property, advance_member}
+use Rattle.php_ast.specs.MemberMachine.{visibility_of_keyword, Word, Names, Modifiers, Rules, NamesIn, of_use, of_instead, MemberState, past_modifiers, due_trait, past_trait, due_constant, in_constant, due_property, past_property, in_method, due_rule, past_as, past_visibility, due_rule_end, past_member, with_rule, constant_end, property_end, with_constant, with_property, advance_member}
 use Rattle.php_ast.specs.DeclarationDepth.{function_depth_at, names_in_depth, member_depth_at, member_depths_read}
 use Rattle.php_ast.proofs.Deepened.{Counts, expression_depths, wrapped_depths}
 use Rattle.php_ast.proofs.Shifts.{nests_shift}
@@ -68,7 +68,7 @@ keyword_alias : (r : Rules) (origin : Option (Name Nothing)) (m : Word) (k : Key
     → trace (past_as r origin m) (keyword k ∷ punct mark.Semicolon ∷ w) ≡ 1 ∷ 1 ∷ trace (due_rule (with_rule r (renames tt origin m None (Some (tree.reserved tt k))))) w
 keyword_alias r origin m k w h =
     ap (λ o. taken (either (if_some o (λ seen. Some (past_visibility r origin m seen))) (Some (due_rule_end r (renames tt origin m None (Some (tree.reserved tt k)))))) 1
-        (λ n. trace n (punct mark.Semicolon ∷ w))) h
+    (λ n. trace n (punct mark.Semicolon ∷ w))) h
 
 seen_trace : (r : Rules) (origin : Option (Name Nothing)) (m : Word) (v : Visibility) (w : List Symbol) → trace (past_as r origin m) (keyword (visibility_word v) ∷ w) ≡ 1 ∷ trace (past_visibility r origin m v) w
 seen_trace r origin m visibility.Public w = refl
