@@ -1,5 +1,6 @@
--- The spelling of one element of a list, in front of what follows it.
+-- The spelling of one element of a list, and of a class behind `new`, in front of what follows.
 use Rattle.std.specs.Prelude.{List, ◌∷◌}
+use Rattle.php_lex.specs.declared.kind.Keyword.TheVariants as word
 use Rattle.php_lex.specs.declared.kind.Punct.TheVariants as mark
 use Rattle.php_ast.specs.declared.expression.Piece.{Piece}
 use Rattle.php_ast.specs.declared.expression.Piece.TheVariants as piece
@@ -15,12 +16,13 @@ use Rattle.php_ast.specs.declared.expression.ClassStep.{ClassStep}
 use Rattle.php_ast.specs.declared.expression.ClassStep.TheVariants as class_step
 use Rattle.php_ast.specs.declared.expression.Link.{Link}
 use Rattle.php_ast.specs.declared.expression.Link.TheVariants as link
+use Rattle.php_ast.specs.declared.expression.Class as behind_new
 use Rattle.php_ast.specs.Symbol as symbol
-use Rattle.php_ast.specs.Symbol.{Symbol, punct}
+use Rattle.php_ast.specs.Symbol.{Symbol, keyword, punct}
 use Rattle.php_ast.specs.Operators.{binary_symbol}
 use Rattle.php_ast.specs.Tree.{Tree, none}
-use Rattle.php_ast.specs.Spelling.{spell, spell_items, member_symbol}
-use Rattle.php_ast.specs.View.{Note, word_view, member_view, arguments_from}
+use Rattle.php_ast.specs.Spelling.{spell, spell_items, spell_class, member_symbol}
+use Rattle.php_ast.specs.View.{Note, word_view, member_view, arguments_from, class_view}
 
 abbrev pub spell_piece : Piece (Tree Note) → List Symbol → List Symbol
 spell_piece (piece.Bytes text) w = symbol.piece text ∷ w
@@ -60,3 +62,7 @@ spell_link (link.ShortChoice b) w = punct mark.Question ∷ punct mark.Colon ∷
 abbrev pub spell_step : ClassStep (Tree Note) → List Symbol → List Symbol
 spell_step (class_step.Property name) w = punct mark.Arrow ∷ member_symbol (word_view name) ∷ w
 spell_step (class_step.Index e) w = punct mark.LeftBracket ∷ spell e (punct mark.RightBracket ∷ w)
+
+-- `new` and its class
+abbrev pub spell_new : behind_new.Class (Tree Note) → List Symbol → List Symbol
+spell_new c w = keyword word.New ∷ spell_class (class_view c) w

@@ -28,7 +28,8 @@ pub fn print_expr(alloc: Global, e: &Expr) -> Result<Vec<Printed>, NoMemory>
 
 /// The tokens that a statement is spelled with, as `print_expr` does it for an expression.
 pub fn print_stmt(alloc: Global, s: &Stmt) -> Result<Vec<Printed>, NoMemory>
-    ensures { IfOk result (λ tokens. map printed_symbol tokens.items ≡ spell_statement (statement_view s.now) []) }
+    ensures { IfOk result (λ tokens. map printed_symbol tokens.items ≡ spell_statement
+        (statement_view s.now) []) }
 {
     let mut printer = Printer::new(alloc);
     printer.statement(s)?;
@@ -37,7 +38,8 @@ pub fn print_stmt(alloc: Global, s: &Stmt) -> Result<Vec<Printed>, NoMemory>
 
 /// The tokens that a script is spelled with, as `print_expr` does it for an expression.
 pub fn print_script(alloc: Global, script: &Script) -> Result<Vec<Printed>, NoMemory>
-    ensures { IfOk result (λ tokens. map printed_symbol tokens.items ≡ spell_script (script_view script.now)) }
+    ensures { IfOk result (λ tokens. map printed_symbol tokens.items ≡ spell_script
+        (script_view script.now)) }
 {
     let mut printer = Printer::new(alloc);
     printer.script_items(script.items.as_slice())?;

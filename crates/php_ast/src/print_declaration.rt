@@ -42,7 +42,8 @@ impl Printer {
     }
 
     fn declared(&mut self, declared: &Option<Type>) -> Result<(), NoMemory>
-        ensures { OnOk result (Prints (spelling.spell_declared (optional shown.type_view declared.now)) self.old self.new) }
+        ensures { OnOk result (Prints (spelling.spell_declared (optional shown.type_view declared.now))
+            self.old self.new) }
     {
         match declared {
             None => Ok(()),
@@ -51,7 +52,8 @@ impl Printer {
     }
 
     fn result_type(&mut self, given: &Option<Type>) -> Result<(), NoMemory>
-        ensures { OnOk result (Prints (spelling.spell_result (optional shown.type_view given.now)) self.old self.new) }
+        ensures { OnOk result (Prints (spelling.spell_result (optional shown.type_view given.now))
+            self.old self.new) }
     {
         match given {
             None => Ok(()),
@@ -63,7 +65,8 @@ impl Printer {
     }
 
     fn param(&mut self, param: &Param) -> Result<(), NoMemory>
-        ensures { OnOk result (Prints (spelling.spell_param (shown.param_view param.now)) self.old self.new) }
+        ensures { OnOk result (Prints (spelling.spell_param (shown.param_view param.now))
+            self.old self.new) }
     {
         self.declared(&param.declared)?;
         self.punct_if(param.is_reference, Punct::Ampersand)?;
@@ -73,7 +76,8 @@ impl Printer {
     }
 
     fn params(&mut self, params: &[Param]) -> Result<(), NoMemory>
-        ensures { OnOk result (Prints (commas spelling.spell_param (sequence shown.param_view params.now)) self.old self.new) }
+        ensures { OnOk result (Prints (commas spelling.spell_param (sequence shown.param_view params.now))
+            self.old self.new) }
     {
         let mut is_later = false;
         for param in params {
@@ -86,7 +90,8 @@ impl Printer {
 
     /// Prints parameters and the type of the result.
     pub(crate) fn signature(&mut self, signature: &Signature) -> Result<(), NoMemory>
-        ensures { OnOk result (Prints (spelling.spell_signature (shown.signature_view signature.now)) self.old self.new) }
+        ensures { OnOk result (Prints (spelling.spell_signature (shown.signature_view signature.now))
+            self.old self.new) }
     {
         self.sign(LEFT)?;
         self.params(signature.params.as_slice())?;
@@ -96,7 +101,8 @@ impl Printer {
 
     /// Prints `function`, and `&` where there is one.
     pub(crate) fn function_head(&mut self, is_reference: bool) -> Result<(), NoMemory>
-        ensures { OnOk result (Prints (λ w. symbol.keyword word.Function ∷ sign_if is_reference (symbol.punct mark.Ampersand) w) self.old self.new) }
+        ensures { OnOk result (Prints (λ w. symbol.keyword word.Function ∷ sign_if is_reference
+            (symbol.punct mark.Ampersand) w) self.old self.new) }
     {
         self.keyword(Keyword::Function)?;
         self.punct_if(is_reference, Punct::Ampersand)
@@ -104,7 +110,8 @@ impl Printer {
 
     /// Prints a function.
     pub(crate) fn function(&mut self, function: &FunctionDecl) -> Result<(), NoMemory>
-        ensures { OnOk result (Prints (spelling.spell_function (shown.function_view function.now)) self.old self.new) }
+        ensures { OnOk result (Prints (spelling.spell_function (shown.function_view function.now))
+            self.old self.new) }
     {
         self.function_head(function.is_reference)?;
         self.name(&function.name.text)?;
@@ -115,7 +122,8 @@ impl Printer {
     // ---- classes, interfaces, traits
 
     fn class_word(&mut self, modifier: &(Spot, ClassModifier)) -> Result<(), NoMemory>
-        ensures { OnOk result (Prints (spelling.spell_class_word (shown.class_word_view modifier.now)) self.old self.new) }
+        ensures { OnOk result (Prints (spelling.spell_class_word (shown.class_word_view modifier.now))
+            self.old self.new) }
     {
         match modifier.1 {
             ClassModifier::Abstract => self.keyword(Keyword::Abstract),
@@ -124,7 +132,8 @@ impl Printer {
     }
 
     fn class_words(&mut self, modifiers: &[(Spot, ClassModifier)]) -> Result<(), NoMemory>
-        ensures { OnOk result (Prints (spelling.joined spelling.spell_class_word (sequence shown.class_word_view modifiers.now)) self.old self.new) }
+        ensures { OnOk result (Prints (spelling.joined spelling.spell_class_word
+            (sequence shown.class_word_view modifiers.now)) self.old self.new) }
     {
         for modifier in modifiers {
             self.class_word(modifier)?;
@@ -133,7 +142,8 @@ impl Printer {
     }
 
     fn parent(&mut self, parent: &Option<Name>) -> Result<(), NoMemory>
-        ensures { OnOk result (Prints (spelling.spell_parent (optional name_view parent.now)) self.old self.new) }
+        ensures { OnOk result (Prints (spelling.spell_parent (optional name_view parent.now))
+            self.old self.new) }
     {
         match parent {
             None => Ok(()),
@@ -146,7 +156,8 @@ impl Printer {
 
     // Names behind a word, which is absent where there are none.
     fn names_behind(&mut self, before: Keyword, names: &[Name]) -> Result<(), NoMemory>
-        ensures { OnOk result (Prints (spelling.spell_names before (shown.names_view names.now)) self.old self.new) }
+        ensures { OnOk result (Prints (spelling.spell_names before (shown.names_view names.now))
+            self.old self.new) }
     {
         if names.is_empty() {
             return Ok(());
@@ -157,7 +168,8 @@ impl Printer {
 
     /// Prints a class.
     pub(crate) fn class(&mut self, class: &ClassDecl) -> Result<(), NoMemory>
-        ensures { OnOk result (Prints (spelling.spell_item (tree.of_class (shown.class_view class.now))) self.old self.new) }
+        ensures { OnOk result (Prints (spelling.spell_item (tree.of_class (shown.class_view class.now)))
+            self.old self.new) }
     {
         self.class_words(class.modifiers.as_slice())?;
         self.keyword(Keyword::Class)?;
@@ -169,7 +181,8 @@ impl Printer {
 
     /// Prints an interface.
     pub(crate) fn interface(&mut self, interface: &InterfaceDecl) -> Result<(), NoMemory>
-        ensures { OnOk result (Prints (spelling.spell_item (tree.of_interface (shown.interface_view interface.now))) self.old self.new) }
+        ensures { OnOk result (Prints (spelling.spell_item (tree.of_interface
+            (shown.interface_view interface.now))) self.old self.new) }
     {
         self.keyword(Keyword::Interface)?;
         self.name(&interface.name.text)?;
@@ -179,7 +192,8 @@ impl Printer {
 
     /// Prints a trait.
     pub(crate) fn trait_of(&mut self, of: &TraitDecl) -> Result<(), NoMemory>
-        ensures { OnOk result (Prints (spelling.spell_item (tree.of_trait (shown.trait_view of.now))) self.old self.new) }
+        ensures { OnOk result (Prints (spelling.spell_item (tree.of_trait (shown.trait_view of.now)))
+            self.old self.new) }
     {
         self.keyword(Keyword::Trait)?;
         self.name(&of.name.text)?;

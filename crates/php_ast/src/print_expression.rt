@@ -10,6 +10,7 @@ ghost use Rattle.php_ast.specs.PrintElements.{
   spell_arguments,
   spell_item,
   spell_link,
+  spell_new,
   spell_piece,
   spell_step,
   spell_suffix,
@@ -126,7 +127,8 @@ impl Printer {
     // An expression with tokens before and behind it.
     #[cycle(expressions)]
     fn around(&mut self, before: &[Sign], e: &Expr, behind: &[Sign]) -> Result<(), NoMemory>
-        ensures { OnOk result (Prints (λ w. sign_symbols before.now (spell (view e.now) (sign_symbols behind.now w))) self.old self.new) }
+        ensures { OnOk result (Prints (λ w. sign_symbols before.now (spell (view e.now)
+            (sign_symbols behind.now w))) self.old self.new) }
     {
         self.signs(before)?;
         self.expression(e)?;
@@ -143,7 +145,8 @@ impl Printer {
     // Two expressions with tokens between them.
     #[cycle(expressions)]
     fn pair(&mut self, left: &Expr, between: &[Sign], right: &Expr) -> Result<(), NoMemory>
-        ensures { OnOk result (Prints (λ w. spell (view left.now) (sign_symbols between.now (spell (view right.now) w))) self.old self.new) }
+        ensures { OnOk result (Prints (λ w. spell (view left.now) (sign_symbols between.now (spell
+            (view right.now) w))) self.old self.new) }
     {
         self.expression(left)?;
         self.signs(between)?;
@@ -154,7 +157,9 @@ impl Printer {
 
     #[cycle(expressions)]
     fn template(&mut self, pieces: &[Piece<Expr>]) -> Result<(), NoMemory>
-        ensures { OnOk result (Prints (λ w. symbol.quote ∷ spell_pieces (pieces_from tree.no_piece (map (piece_with view) pieces.now)) (symbol.unquote ∷ w)) self.old self.new) }
+        ensures { OnOk result (Prints (λ w. symbol.quote
+            ∷ spell_pieces (pieces_from tree.no_piece (map (piece_with view) pieces.now))
+            (symbol.unquote ∷ w)) self.old self.new) }
     {
         self.put(Printed::Quote)?;
         for piece in pieces {
@@ -177,7 +182,9 @@ impl Printer {
 
     #[cycle(expressions)]
     fn array(&mut self, form: ArrayForm, items: &[Item<Expr>]) -> Result<(), NoMemory>
-        ensures { OnOk result (Prints (λ w. list_opening (tree.array form) (spell_items (items_from tree.none (map (item_with view) items.now)) (list_closing (tree.array form) ∷ w))) self.old self.new) }
+        ensures { OnOk result (Prints (λ w. list_opening (tree.array form)
+            (spell_items (items_from tree.none (map (item_with view) items.now))
+            (list_closing (tree.array form) ∷ w))) self.old self.new) }
     {
         self.array_opening(form)?;
         let mut has_before = false;
@@ -224,7 +231,8 @@ impl Printer {
     /// Prints expressions with commas between them.
     #[cycle(expressions)]
     pub(crate) fn values(&mut self, values: &[Expr]) -> Result<(), NoMemory>
-        ensures { OnOk result (Prints (spell_items (values_from tree.none (map view values.now))) self.old self.new) }
+        ensures { OnOk result (Prints (spell_items (values_from tree.none (map view values.now)))
+            self.old self.new) }
     {
         let mut is_later = false;
         for value in values {
@@ -237,7 +245,9 @@ impl Printer {
 
     #[cycle(expressions)]
     fn isset(&mut self, values: &[Expr]) -> Result<(), NoMemory>
-        ensures { OnOk result (Prints (λ w. symbol.keyword word.IsSet ∷ symbol.punct mark.LeftParen ∷ spell_items (values_from tree.none (map view values.now)) (symbol.punct mark.RightParen ∷ w)) self.old self.new) }
+        ensures { OnOk result (Prints (λ w. symbol.keyword word.IsSet ∷ symbol.punct mark.LeftParen
+            ∷ spell_items (values_from tree.none (map view values.now))
+            (symbol.punct mark.RightParen ∷ w)) self.old self.new) }
     {
         self.signs(&[Sign::Keyword(Keyword::IsSet), LEFT])?;
         self.values(values)?;
@@ -247,7 +257,8 @@ impl Printer {
     // Arguments in their parentheses.
     #[cycle(expressions)]
     fn arguments(&mut self, arguments: &[Argument<Expr>]) -> Result<(), NoMemory>
-        ensures { OnOk result (Prints (spell_arguments (map (argument_with view) arguments.now)) self.old self.new) }
+        ensures { OnOk result (Prints (spell_arguments (map (argument_with view) arguments.now))
+            self.old self.new) }
     {
         self.sign(LEFT)?;
         let mut is_later = false;
@@ -261,7 +272,8 @@ impl Printer {
 
     #[cycle(expressions)]
     fn argument(&mut self, argument: &Argument<Expr>) -> Result<(), NoMemory>
-        ensures { OnOk result (Prints (spell_argument (argument_with view argument.now)) self.old self.new) }
+        ensures { OnOk result (Prints (spell_argument (argument_with view argument.now))
+            self.old self.new) }
     {
         match argument {
             Argument::Value(e) => self.expression(e),
@@ -273,7 +285,8 @@ impl Printer {
 
     #[cycle(expressions)]
     fn chain(&mut self, first: &Expr, suffixes: &[Suffix<Expr>]) -> Result<(), NoMemory>
-        ensures { OnOk result (Prints (spell (with_suffixes (view first.now) (map (suffix_with view) suffixes.now))) self.old self.new) }
+        ensures { OnOk result (Prints (spell (with_suffixes (view first.now) (map
+            (suffix_with view) suffixes.now))) self.old self.new) }
     {
         self.expression(first)?;
         for suffix in suffixes {
@@ -302,7 +315,8 @@ impl Printer {
 
     #[cycle(expressions)]
     fn run(&mut self, first: &Expr, links: &[Link<Expr>]) -> Result<(), NoMemory>
-        ensures { OnOk result (Prints (spell (with_links (view first.now) (map (link_with view) links.now))) self.old self.new) }
+        ensures { OnOk result (Prints (spell (with_links (view first.now) (map (link_with view) links.now)))
+            self.old self.new) }
     {
         self.expression(first)?;
         for link in links {
@@ -329,7 +343,7 @@ impl Printer {
 
     #[cycle(expressions)]
     fn made(&mut self, class: &Class<Expr>) -> Result<(), NoMemory>
-        ensures { OnOk result (Prints (λ w. symbol.keyword word.New ∷ spell_class (class_view (class_with view class.now)) w) self.old self.new) }
+        ensures { OnOk result (Prints (spell_new (class_with view class.now)) self.old self.new) }
     {
         self.sign(Sign::Keyword(Keyword::New))?;
         match class {
@@ -345,7 +359,8 @@ impl Printer {
         class: &Class<Expr>,
         arguments: &[Argument<Expr>],
     ) -> Result<(), NoMemory>
-        ensures { OnOk result (Prints (λ w. symbol.keyword word.New ∷ spell_class (class_view (class_with view class.now)) (spell_arguments (map (argument_with view) arguments.now) w)) self.old self.new) }
+        ensures { OnOk result (Prints (λ w. spell_new (class_with view class.now) (spell_arguments (map
+            (argument_with view) arguments.now) w)) self.old self.new) }
     {
         self.made(class)?;
         self.arguments(arguments)
@@ -353,7 +368,8 @@ impl Printer {
 
     #[cycle(expressions)]
     fn steps(&mut self, name: &Name, steps: &[ClassStep<Expr>]) -> Result<(), NoMemory>
-        ensures { OnOk result (Prints (spell_steps (steps_from (tree.from (note name.now.spot) name.now.text) (map (step_with view) steps.now))) self.old self.new) }
+        ensures { OnOk result (Prints (spell_steps (steps_from (tree.from
+            (note name.now.spot) name.now.text) (map (step_with view) steps.now))) self.old self.new) }
     {
         self.variable(&name.text)?;
         for step in steps {
@@ -370,41 +386,5 @@ impl Printer {
             ClassStep::Property(word) => self.property_word(word),
             ClassStep::Index(key) => self.around(&[LEFT_BRACKET], key, &[RIGHT_BRACKET]),
         }
-    }
-
-    // ---- names of members
-
-    // `-> name`
-    fn property_word(&mut self, word: &Word) -> Result<(), NoMemory>
-        ensures { OnOk result (Prints (λ w. symbol.punct mark.Arrow ∷ member_symbol (word_view word.now) ∷ w) self.old self.new) }
-    {
-        self.sign(ARROW)?;
-        self.word(word)
-    }
-
-    // `-> $name`
-    fn property_variable(&mut self, name: &Name) -> Result<(), NoMemory>
-        ensures { OnOk result (Prints (λ w. symbol.punct mark.Arrow ∷ symbol.variable name.now.text ∷ w) self.old self.new) }
-    {
-        self.sign(ARROW)?;
-        self.variable(&name.text)
-    }
-
-    // `:: name` and `:: $name`
-    fn member(&mut self, member: &Member) -> Result<(), NoMemory>
-        ensures { OnOk result (Prints (λ w. symbol.punct mark.DoubleColon ∷ member_symbol (member_view member.now) ∷ w) self.old self.new) }
-    {
-        self.sign(DOUBLE_COLON)?;
-        match member {
-            Member::Word(word) => self.word(word),
-            Member::Variable(name) => self.variable(&name.text),
-        }
-    }
-
-    fn static_member(&mut self, member: &Member) -> Result<(), NoMemory>
-        ensures { OnOk result (Prints (λ w. symbol.keyword word.Static ∷ symbol.punct mark.DoubleColon ∷ member_symbol (member_view member.now) ∷ w) self.old self.new) }
-    {
-        self.sign(STATIC)?;
-        self.member(member)
     }
 }

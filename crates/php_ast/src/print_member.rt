@@ -29,13 +29,15 @@ impl Printer {
     // ---- modifiers
 
     fn modifier(&mut self, modifier: &Modifier) -> Result<(), NoMemory>
-        ensures { OnOk result (Prints (spelling.spell_modifier (shown.modifier_view modifier.now)) self.old self.new) }
+        ensures { OnOk result (Prints (spelling.spell_modifier (shown.modifier_view modifier.now))
+            self.old self.new) }
     {
         self.keyword(modifier_keyword(modifier.word))
     }
 
     fn modifiers(&mut self, modifiers: &[Modifier]) -> Result<(), NoMemory>
-        ensures { OnOk result (Prints (spelling.joined spelling.spell_modifier (sequence shown.modifier_view modifiers.now)) self.old self.new) }
+        ensures { OnOk result (Prints (spelling.joined spelling.spell_modifier
+            (sequence shown.modifier_view modifiers.now)) self.old self.new) }
     {
         for modifier in modifiers {
             self.modifier(modifier)?;
@@ -46,7 +48,8 @@ impl Printer {
     // ---- members
 
     fn class_constant(&mut self, item: &ClassConstant) -> Result<(), NoMemory>
-        ensures { OnOk result (Prints (spelling.spell_class_constant (shown.class_constant_view item.now)) self.old self.new) }
+        ensures { OnOk result (Prints (spelling.spell_class_constant (shown.class_constant_view item.now))
+            self.old self.new) }
     {
         self.word(&item.name)?;
         self.sign(ASSIGN)?;
@@ -54,7 +57,8 @@ impl Printer {
     }
 
     fn class_constants(&mut self, items: &[ClassConstant]) -> Result<(), NoMemory>
-        ensures { OnOk result (Prints (commas spelling.spell_class_constant (sequence shown.class_constant_view items.now)) self.old self.new) }
+        ensures { OnOk result (Prints (commas spelling.spell_class_constant
+            (sequence shown.class_constant_view items.now)) self.old self.new) }
     {
         let mut is_later = false;
         for item in items {
@@ -66,7 +70,8 @@ impl Printer {
     }
 
     fn method(&mut self, method: &Method) -> Result<(), NoMemory>
-        ensures { OnOk result (Prints (spelling.spell_member (tree.method (shown.method_view method.now))) self.old self.new) }
+        ensures { OnOk result (Prints (spelling.spell_member (tree.method (shown.method_view method.now)))
+            self.old self.new) }
     {
         self.modifiers(method.modifiers.as_slice())?;
         self.function_head(method.is_reference)?;
@@ -76,7 +81,8 @@ impl Printer {
     }
 
     fn method_body(&mut self, body: &Option<Items<Stmt>>) -> Result<(), NoMemory>
-        ensures { OnOk result (Prints (spelling.spell_method_body (optional shown.statements_view body.now)) self.old self.new) }
+        ensures { OnOk result (Prints (spelling.spell_method_body (optional shown.statements_view body.now))
+            self.old self.new) }
     {
         match body {
             None => self.sign(SEMICOLON),
@@ -85,7 +91,9 @@ impl Printer {
     }
 
     fn use_of(&mut self, names: &[Name], rules: &Option<Items<Rule>>) -> Result<(), NoMemory>
-        ensures { OnOk result (Prints (λ w. symbol.keyword word.Use ∷ commas spell_name (names_view names.now) (spell_rules (optional (sequence shown.rule_view) rules.now) w)) self.old self.new) }
+        ensures { OnOk result (Prints (λ w. symbol.keyword word.Use ∷ commas spell_name
+            (names_view names.now) (spell_rules (optional (sequence shown.rule_view) rules.now) w))
+            self.old self.new) }
     {
         self.keyword(Keyword::Use)?;
         self.names(names, Punct::Comma)?;
@@ -93,7 +101,8 @@ impl Printer {
     }
 
     fn use_end(&mut self, rules: &Option<Items<Rule>>) -> Result<(), NoMemory>
-        ensures { OnOk result (Prints (spell_rules (optional (sequence shown.rule_view) rules.now)) self.old self.new) }
+        ensures { OnOk result (Prints (spell_rules (optional (sequence shown.rule_view) rules.now))
+            self.old self.new) }
     {
         match rules {
             None => self.sign(SEMICOLON),
@@ -106,7 +115,9 @@ impl Printer {
         modifiers: &[Modifier],
         items: &[ClassConstant],
     ) -> Result<(), NoMemory>
-        ensures { OnOk result (Prints (spelling.spell_member (tree.class_constants (sequence shown.modifier_view modifiers.now) (sequence shown.class_constant_view items.now))) self.old self.new) }
+        ensures { OnOk result (Prints (spelling.spell_member (tree.class_constants
+            (sequence shown.modifier_view modifiers.now) (sequence shown.class_constant_view items.now)))
+            self.old self.new) }
     {
         self.modifiers(modifiers)?;
         self.keyword(Keyword::Const)?;
@@ -115,7 +126,9 @@ impl Printer {
     }
 
     fn properties(&mut self, modifiers: &[Modifier], items: &[VariableItem]) -> Result<(), NoMemory>
-        ensures { OnOk result (Prints (spelling.spell_member (tree.properties (sequence shown.modifier_view modifiers.now) (sequence shown.variable_view items.now))) self.old self.new) }
+        ensures { OnOk result (Prints (spelling.spell_member (tree.properties
+            (sequence shown.modifier_view modifiers.now) (sequence shown.variable_view items.now)))
+            self.old self.new) }
     {
         self.modifiers(modifiers)?;
         self.variables(items)?;
@@ -123,7 +136,8 @@ impl Printer {
     }
 
     fn class_member(&mut self, member: &ClassMember) -> Result<(), NoMemory>
-        ensures { OnOk result (Prints (spelling.spell_member (shown.member_view member.now)) self.old self.new) }
+        ensures { OnOk result (Prints (spelling.spell_member (shown.member_view member.now))
+            self.old self.new) }
     {
         match member {
             ClassMember::Use(_, names, rules) => self.use_of(names.as_slice(), rules),
@@ -139,7 +153,8 @@ impl Printer {
 
     /// Prints members in braces.
     pub(crate) fn members(&mut self, members: &[ClassMember]) -> Result<(), NoMemory>
-        ensures { OnOk result (Prints (spelling.spell_members (sequence shown.member_view members.now)) self.old self.new) }
+        ensures { OnOk result (Prints (spelling.spell_members (sequence shown.member_view members.now))
+            self.old self.new) }
     {
         self.sign(LEFT_BRACE)?;
         self.members_alone(members)?;
@@ -147,7 +162,8 @@ impl Printer {
     }
 
     fn members_alone(&mut self, members: &[ClassMember]) -> Result<(), NoMemory>
-        ensures { OnOk result (Prints (spelling.joined spelling.spell_member (sequence shown.member_view members.now)) self.old self.new) }
+        ensures { OnOk result (Prints (spelling.joined spelling.spell_member
+            (sequence shown.member_view members.now)) self.old self.new) }
     {
         for member in members {
             self.class_member(member)?;
@@ -158,7 +174,9 @@ impl Printer {
     // ---- rules on the methods of used traits
 
     fn rules(&mut self, rules: &[Rule]) -> Result<(), NoMemory>
-        ensures { OnOk result (Prints (λ w. symbol.punct mark.LeftBrace ∷ spelling.joined spelling.spell_rule (sequence shown.rule_view rules.now) (symbol.punct mark.RightBrace ∷ w)) self.old self.new) }
+        ensures { OnOk result (Prints (λ w. symbol.punct mark.LeftBrace
+            ∷ spelling.joined spelling.spell_rule (sequence shown.rule_view rules.now)
+            (symbol.punct mark.RightBrace ∷ w)) self.old self.new) }
     {
         self.sign(LEFT_BRACE)?;
         self.rules_alone(rules)?;
@@ -166,7 +184,8 @@ impl Printer {
     }
 
     fn rules_alone(&mut self, rules: &[Rule]) -> Result<(), NoMemory>
-        ensures { OnOk result (Prints (spelling.joined spelling.spell_rule (sequence shown.rule_view rules.now)) self.old self.new) }
+        ensures { OnOk result (Prints (spelling.joined spelling.spell_rule
+            (sequence shown.rule_view rules.now)) self.old self.new) }
     {
         for rule in rules {
             self.rule(rule)?;
@@ -191,7 +210,8 @@ impl Printer {
     }
 
     fn origin(&mut self, origin: &Option<Name>) -> Result<(), NoMemory>
-        ensures { OnOk result (Prints (spelling.spell_origin (optional name_view origin.now)) self.old self.new) }
+        ensures { OnOk result (Prints (spelling.spell_origin (optional name_view origin.now))
+            self.old self.new) }
     {
         match origin {
             None => Ok(()),
@@ -203,7 +223,8 @@ impl Printer {
     }
 
     fn renamed(&mut self, seen: &Option<Visibility>, alias: &Option<Word>) -> Result<(), NoMemory>
-        ensures { OnOk result (Prints (λ w. spelling.spell_visibility seen.now (spelling.spell_alias (optional word_view alias.now) (symbol.punct mark.Semicolon ∷ w))) self.old self.new) }
+        ensures { OnOk result (Prints (λ w. spelling.spell_visibility seen.now (spelling.spell_alias
+            (optional word_view alias.now) (symbol.punct mark.Semicolon ∷ w))) self.old self.new) }
     {
         self.visibility(seen)?;
         self.alias(alias)?;
@@ -222,7 +243,8 @@ impl Printer {
     }
 
     fn alias(&mut self, alias: &Option<Word>) -> Result<(), NoMemory>
-        ensures { OnOk result (Prints (spelling.spell_alias (optional word_view alias.now)) self.old self.new) }
+        ensures { OnOk result (Prints (spelling.spell_alias (optional word_view alias.now))
+            self.old self.new) }
     {
         match alias {
             None => Ok(()),
@@ -231,7 +253,10 @@ impl Printer {
     }
 
     fn preferred(&mut self, origin: &Name, name: &Word, others: &[Name]) -> Result<(), NoMemory>
-        ensures { OnOk result (Prints (λ w. symbol.name origin.now.text ∷ symbol.punct mark.DoubleColon ∷ spelling.spell_member_name (word_view name.now) (symbol.keyword word.InsteadOf ∷ commas spell_name (names_view others.now) (symbol.punct mark.Semicolon ∷ w))) self.old self.new) }
+        ensures { OnOk result (Prints (λ w. symbol.name origin.now.text ∷ symbol.punct mark.DoubleColon
+            ∷ spelling.spell_member_name (word_view name.now) (symbol.keyword word.InsteadOf
+            ∷ commas spell_name (names_view others.now) (symbol.punct mark.Semicolon ∷ w)))
+            self.old self.new) }
     {
         self.name(&origin.text)?;
         self.sign(DOUBLE_COLON)?;
@@ -257,7 +282,8 @@ impl Printer {
 
     /// Prints what stands at the outermost level of a script.
     pub(crate) fn script_items(&mut self, items: &[ScriptItem]) -> Result<(), NoMemory>
-        ensures { OnOk result (Prints (spelling.joined spelling.spell_item (sequence shown.item_view items.now)) self.old self.new) }
+        ensures { OnOk result (Prints (spelling.joined spelling.spell_item
+            (sequence shown.item_view items.now)) self.old self.new) }
     {
         for item in items {
             self.script_item(item)?;

@@ -4,6 +4,7 @@ ghost use Rattle.std.specs.Prelude.{◌∷◌, map, OnOk};
 ghost use Rattle.php_lex.specs.declared.kind.Keyword.TheVariants as word;
 ghost use Rattle.php_lex.specs.declared.kind.Punct.TheVariants as mark;
 ghost use Rattle.php_ast.specs.Print.{Prints};
+ghost use Rattle.php_ast.specs.PrintStatements.{spell_catch_head, spell_for_head, spell_foreach_head};
 ghost use Rattle.php_ast.specs.Spelling.{spell, spell_items};
 ghost use Rattle.php_ast.specs.StatementSpelling as spelling;
 ghost use Rattle.php_ast.specs.StatementView as shown;
@@ -25,7 +26,8 @@ use php_lex::{Keyword, Punct};
 impl Printer {
     /// Prints names, with a sign between each two.
     pub(crate) fn names(&mut self, names: &[Name], between: Punct) -> Result<(), NoMemory>
-        ensures { OnOk result (Prints (spelling.separated (symbol.punct between) spelling.spell_name (shown.names_view names.now)) self.old self.new) }
+        ensures { OnOk result (Prints (spelling.separated (symbol.punct between) spelling.spell_name
+            (shown.names_view names.now)) self.old self.new) }
     {
         let mut is_later = false;
         for name in names {
@@ -38,7 +40,8 @@ impl Printer {
 
     // Variables, with commas between them.
     fn dollars(&mut self, names: &[Name]) -> Result<(), NoMemory>
-        ensures { OnOk result (Prints (spelling.commas spelling.spell_dollar (shown.names_view names.now)) self.old self.new) }
+        ensures { OnOk result (Prints (spelling.commas spelling.spell_dollar (shown.names_view names.now))
+            self.old self.new) }
     {
         let mut is_later = false;
         for name in names {
@@ -51,7 +54,8 @@ impl Printer {
 
     /// Prints variables with their values, with commas between them.
     pub(crate) fn variables(&mut self, items: &[VariableItem]) -> Result<(), NoMemory>
-        ensures { OnOk result (Prints (spelling.commas spelling.spell_variable (shown.sequence shown.variable_view items.now)) self.old self.new) }
+        ensures { OnOk result (Prints (spelling.commas spelling.spell_variable
+            (shown.sequence shown.variable_view items.now)) self.old self.new) }
     {
         let mut is_later = false;
         for item in items {
@@ -63,7 +67,8 @@ impl Printer {
     }
 
     fn variable_item(&mut self, item: &VariableItem) -> Result<(), NoMemory>
-        ensures { OnOk result (Prints (spelling.spell_variable (shown.variable_view item.now)) self.old self.new) }
+        ensures { OnOk result (Prints (spelling.spell_variable (shown.variable_view item.now))
+            self.old self.new) }
     {
         self.variable(&item.name.text)?;
         self.initial(&item.value)
@@ -71,7 +76,8 @@ impl Printer {
 
     /// Prints `=` and a value, where there is one.
     pub(crate) fn initial(&mut self, value: &Option<Expr>) -> Result<(), NoMemory>
-        ensures { OnOk result (Prints (spelling.spell_value (shown.optional view value.now)) self.old self.new) }
+        ensures { OnOk result (Prints (spelling.spell_value (shown.optional view value.now))
+            self.old self.new) }
     {
         match value {
             None => Ok(()),
@@ -83,7 +89,8 @@ impl Printer {
     }
 
     fn constant_items(&mut self, items: &[ConstantItem]) -> Result<(), NoMemory>
-        ensures { OnOk result (Prints (spelling.commas spelling.spell_constant (shown.sequence shown.constant_view items.now)) self.old self.new) }
+        ensures { OnOk result (Prints (spelling.commas spelling.spell_constant
+            (shown.sequence shown.constant_view items.now)) self.old self.new) }
     {
         let mut is_later = false;
         for item in items {
@@ -95,7 +102,8 @@ impl Printer {
     }
 
     fn constant_item(&mut self, item: &ConstantItem) -> Result<(), NoMemory>
-        ensures { OnOk result (Prints (spelling.spell_constant (shown.constant_view item.now)) self.old self.new) }
+        ensures { OnOk result (Prints (spelling.spell_constant (shown.constant_view item.now))
+            self.old self.new) }
     {
         self.name(&item.name.text)?;
         self.sign(ASSIGN)?;
@@ -105,14 +113,16 @@ impl Printer {
     // ---- statements
 
     pub(crate) fn alone(&mut self, e: &Expr) -> Result<(), NoMemory>
-        ensures { OnOk result (Prints (λ w. spell (view e.now) (symbol.punct mark.Semicolon ∷ w)) self.old self.new) }
+        ensures { OnOk result (Prints (λ w. spell (view e.now) (symbol.punct mark.Semicolon ∷ w))
+            self.old self.new) }
     {
         self.expression(e)?;
         self.sign(SEMICOLON)
     }
 
     pub(crate) fn echo(&mut self, values: &[Expr]) -> Result<(), NoMemory>
-        ensures { OnOk result (Prints (λ w. symbol.keyword word.Echo ∷ spell_items (shown.values_view values.now) (symbol.punct mark.Semicolon ∷ w)) self.old self.new) }
+        ensures { OnOk result (Prints (λ w. symbol.keyword word.Echo ∷ spell_items
+            (shown.values_view values.now) (symbol.punct mark.Semicolon ∷ w)) self.old self.new) }
     {
         self.keyword(Keyword::Echo)?;
         self.values(values)?;
@@ -120,7 +130,9 @@ impl Printer {
     }
 
     pub(crate) fn globals(&mut self, names: &[Name]) -> Result<(), NoMemory>
-        ensures { OnOk result (Prints (λ w. symbol.keyword word.Global ∷ spelling.commas spelling.spell_dollar (shown.names_view names.now) (symbol.punct mark.Semicolon ∷ w)) self.old self.new) }
+        ensures { OnOk result (Prints (λ w. symbol.keyword word.Global
+            ∷ spelling.commas spelling.spell_dollar (shown.names_view names.now)
+            (symbol.punct mark.Semicolon ∷ w)) self.old self.new) }
     {
         self.keyword(Keyword::Global)?;
         self.dollars(names)?;
@@ -128,7 +140,9 @@ impl Printer {
     }
 
     pub(crate) fn statics(&mut self, items: &[VariableItem]) -> Result<(), NoMemory>
-        ensures { OnOk result (Prints (λ w. symbol.keyword word.Static ∷ spelling.commas spelling.spell_variable (shown.sequence shown.variable_view items.now) (symbol.punct mark.Semicolon ∷ w)) self.old self.new) }
+        ensures { OnOk result (Prints (λ w. symbol.keyword word.Static
+            ∷ spelling.commas spelling.spell_variable (shown.sequence shown.variable_view items.now)
+            (symbol.punct mark.Semicolon ∷ w)) self.old self.new) }
     {
         self.keyword(Keyword::Static)?;
         self.variables(items)?;
@@ -136,7 +150,9 @@ impl Printer {
     }
 
     pub(crate) fn unset(&mut self, places: &[Expr]) -> Result<(), NoMemory>
-        ensures { OnOk result (Prints (λ w. symbol.keyword word.Unset ∷ symbol.punct mark.LeftParen ∷ spell_items (shown.values_view places.now) (symbol.punct mark.RightParen ∷ symbol.punct mark.Semicolon ∷ w)) self.old self.new) }
+        ensures { OnOk result (Prints (λ w. symbol.keyword word.Unset ∷ symbol.punct mark.LeftParen
+            ∷ spell_items (shown.values_view places.now) (symbol.punct mark.RightParen
+            ∷ symbol.punct mark.Semicolon ∷ w)) self.old self.new) }
     {
         self.signs(&[Sign::Keyword(Keyword::Unset), LEFT])?;
         self.values(places)?;
@@ -144,7 +160,9 @@ impl Printer {
     }
 
     pub(crate) fn constants(&mut self, items: &[ConstantItem]) -> Result<(), NoMemory>
-        ensures { OnOk result (Prints (λ w. symbol.keyword word.Const ∷ spelling.commas spelling.spell_constant (shown.sequence shown.constant_view items.now) (symbol.punct mark.Semicolon ∷ w)) self.old self.new) }
+        ensures { OnOk result (Prints (λ w. symbol.keyword word.Const
+            ∷ spelling.commas spelling.spell_constant (shown.sequence shown.constant_view items.now)
+            (symbol.punct mark.Semicolon ∷ w)) self.old self.new) }
     {
         self.keyword(Keyword::Const)?;
         self.constant_items(items)?;
@@ -152,7 +170,8 @@ impl Printer {
     }
 
     pub(crate) fn jump(&mut self, word: Keyword, value: &Option<Expr>) -> Result<(), NoMemory>
-        ensures { OnOk result (Prints (λ w. symbol.keyword word ∷ spelling.spell_optional (shown.optional view value.now) (symbol.punct mark.Semicolon ∷ w)) self.old self.new) }
+        ensures { OnOk result (Prints (λ w. symbol.keyword word ∷ spelling.spell_optional
+            (shown.optional view value.now) (symbol.punct mark.Semicolon ∷ w)) self.old self.new) }
     {
         self.keyword(word)?;
         self.value(value)?;
@@ -160,7 +179,8 @@ impl Printer {
     }
 
     fn value(&mut self, value: &Option<Expr>) -> Result<(), NoMemory>
-        ensures { OnOk result (Prints (spelling.spell_optional (shown.optional view value.now)) self.old self.new) }
+        ensures { OnOk result (Prints (spelling.spell_optional (shown.optional view value.now))
+            self.old self.new) }
     {
         match value {
             None => Ok(()),
@@ -169,14 +189,17 @@ impl Printer {
     }
 
     pub(crate) fn throw(&mut self, e: &Expr) -> Result<(), NoMemory>
-        ensures { OnOk result (Prints (λ w. symbol.keyword word.Throw ∷ spell (view e.now) (symbol.punct mark.Semicolon ∷ w)) self.old self.new) }
+        ensures { OnOk result (Prints (λ w. symbol.keyword word.Throw ∷ spell (view e.now)
+            (symbol.punct mark.Semicolon ∷ w)) self.old self.new) }
     {
         self.keyword(Keyword::Throw)?;
         self.alone(e)
     }
 
     pub(crate) fn declare(&mut self, name: &Name, value: &i64) -> Result<(), NoMemory>
-        ensures { OnOk result (Prints (λ w. symbol.keyword word.Declare ∷ symbol.punct mark.LeftParen ∷ symbol.name name.now.text ∷ symbol.punct mark.Assign ∷ symbol.int value.now ∷ symbol.punct mark.RightParen ∷ symbol.punct mark.Semicolon ∷ w) self.old self.new) }
+        ensures { OnOk result (Prints (λ w. symbol.keyword word.Declare ∷ symbol.punct mark.LeftParen
+            ∷ symbol.name name.now.text ∷ symbol.punct mark.Assign ∷ symbol.int value.now
+            ∷ symbol.punct mark.RightParen ∷ symbol.punct mark.Semicolon ∷ w) self.old self.new) }
     {
         self.signs(&[Sign::Keyword(Keyword::Declare), LEFT])?;
         self.name(&name.text)?;
@@ -188,7 +211,7 @@ impl Printer {
     // ---- heads
 
     pub(crate) fn for_head(&mut self, head: &ForHead) -> Result<(), NoMemory>
-        ensures { OnOk result (Prints (λ w. symbol.keyword word.For ∷ symbol.punct mark.LeftParen ∷ spell_items (shown.values_view head.now.starts) (symbol.punct mark.Semicolon ∷ spell_items (shown.values_view head.now.tests) (symbol.punct mark.Semicolon ∷ spell_items (shown.values_view head.now.steps) (symbol.punct mark.RightParen ∷ w)))) self.old self.new) }
+        ensures { OnOk result (Prints (spell_for_head head.now) self.old self.new) }
     {
         self.signs(&[Sign::Keyword(Keyword::For), LEFT])?;
         self.values(head.starts.as_slice())?;
@@ -200,7 +223,7 @@ impl Printer {
     }
 
     pub(crate) fn foreach_head(&mut self, head: &ForeachHead) -> Result<(), NoMemory>
-        ensures { OnOk result (Prints (λ w. symbol.keyword word.Foreach ∷ symbol.punct mark.LeftParen ∷ spell (view head.now.walked) (symbol.keyword word.As ∷ spelling.spell_key (shown.optional shown.target_view head.now.key) (spelling.spell_target (shown.target_view head.now.value) (symbol.punct mark.RightParen ∷ w)))) self.old self.new) }
+        ensures { OnOk result (Prints (spell_foreach_head head.now) self.old self.new) }
     {
         self.signs(&[Sign::Keyword(Keyword::Foreach), LEFT])?;
         self.expression(&head.walked)?;
@@ -211,7 +234,8 @@ impl Printer {
     }
 
     fn key(&mut self, key: &Option<Target>) -> Result<(), NoMemory>
-        ensures { OnOk result (Prints (spelling.spell_key (shown.optional shown.target_view key.now)) self.old self.new) }
+        ensures { OnOk result (Prints (spelling.spell_key (shown.optional shown.target_view key.now))
+            self.old self.new) }
     {
         match key {
             None => Ok(()),
@@ -223,14 +247,16 @@ impl Printer {
     }
 
     fn target(&mut self, target: &Target) -> Result<(), NoMemory>
-        ensures { OnOk result (Prints (spelling.spell_target (shown.target_view target.now)) self.old self.new) }
+        ensures { OnOk result (Prints (spelling.spell_target (shown.target_view target.now))
+            self.old self.new) }
     {
         self.punct_if(target.is_reference, Punct::Ampersand)?;
         self.expression(&target.place)
     }
 
     pub(crate) fn switch_opening(&mut self, e: &Expr, form: SwitchForm) -> Result<(), NoMemory>
-        ensures { OnOk result (Prints (λ w. spelling.spell_head word.Switch (view e.now) (spelling.cases_opening form ∷ w)) self.old self.new) }
+        ensures { OnOk result (Prints (λ w. spelling.spell_head word.Switch (view e.now)
+            (spelling.cases_opening form ∷ w)) self.old self.new) }
     {
         self.head(Keyword::Switch, e)?;
         match form {
@@ -249,7 +275,8 @@ impl Printer {
     }
 
     pub(crate) fn label(&mut self, value: &Option<Expr>) -> Result<(), NoMemory>
-        ensures { OnOk result (Prints (spelling.spell_label (shown.optional view value.now)) self.old self.new) }
+        ensures { OnOk result (Prints (spelling.spell_label (shown.optional view value.now))
+            self.old self.new) }
     {
         match value {
             None => self.keyword(Keyword::Default),
@@ -271,7 +298,7 @@ impl Printer {
 
     /// Prints the classes and the variable of a `catch`.
     pub(crate) fn catch_head(&mut self, classes: &[Name], variable: &Name) -> Result<(), NoMemory>
-        ensures { OnOk result (Prints (λ w. symbol.keyword word.Catch ∷ symbol.punct mark.LeftParen ∷ spelling.separated (symbol.punct mark.Bar) spelling.spell_name (shown.names_view classes.now) (spelling.spell_dollar (shown.name_view variable.now) (symbol.punct mark.RightParen ∷ w))) self.old self.new) }
+        ensures { OnOk result (Prints (spell_catch_head classes.now variable.now) self.old self.new) }
     {
         self.signs(&[Sign::Keyword(Keyword::Catch), LEFT])?;
         self.names(classes, Punct::Bar)?;

@@ -72,7 +72,8 @@ impl Printer {
     /// Prints statements, one after the other.
     #[cycle(statements)]
     pub(crate) fn statements(&mut self, body: &[Stmt]) -> Result<(), NoMemory>
-        ensures { OnOk result (Prints (spelling.spell_statements (shown.list_view (map statement_view body.now))) self.old self.new) }
+        ensures { OnOk result (Prints (spelling.spell_statements (shown.list_view
+            (map statement_view body.now))) self.old self.new) }
     {
         for s in body {
             self.statement(s)?;
@@ -83,7 +84,8 @@ impl Printer {
     /// Prints statements in braces.
     #[cycle(statements)]
     pub(crate) fn braces(&mut self, body: &[Stmt]) -> Result<(), NoMemory>
-        ensures { OnOk result (Prints (element.spell_braces (map statement_view body.now)) self.old self.new) }
+        ensures { OnOk result (Prints (element.spell_braces (map statement_view body.now))
+            self.old self.new) }
     {
         self.sign(LEFT_BRACE)?;
         self.statements(body)?;
@@ -93,7 +95,8 @@ impl Printer {
     // The body of a loop; behind a list stands this word.
     #[cycle(statements)]
     fn body(&mut self, behind: Keyword, body: &Body<Stmt>) -> Result<(), NoMemory>
-        ensures { OnOk result (Prints (spelling.spell_body behind (shown.body_view (element.body_with statement_view body.now))) self.old self.new) }
+        ensures { OnOk result (Prints (spelling.spell_body behind (shown.body_view
+            (element.body_with statement_view body.now))) self.old self.new) }
     {
         match body {
             Body::Single(s) => self.statement(s.get()),
@@ -107,7 +110,7 @@ impl Printer {
 
     #[cycle(statements)]
     fn do_while(&mut self, body: &Stmt, test: &Expr) -> Result<(), NoMemory>
-        ensures { OnOk result (Prints (λ w. symbol.keyword word.Do ∷ spelling.spell_statement (statement_view body.now) (spelling.spell_head word.While (view test.now) (symbol.punct mark.Semicolon ∷ w))) self.old self.new) }
+        ensures { OnOk result (Prints (element.spell_do body.now test.now) self.old self.new) }
     {
         self.keyword(Keyword::Do)?;
         self.statement(body)?;
@@ -125,7 +128,8 @@ impl Printer {
         parts: &[ElseIf<Boxed<Stmt>>],
         last: &Option<Boxed<Stmt>>,
     ) -> Result<(), NoMemory>
-        ensures { OnOk result (Prints (λ w. spelling.spell_head word.If (view test.now) (spelling.spell_statement (statement_view body.now) (spelling.spell_elseifs (shown.elseifs_from tree.no_elseif (map (element.elseif_with statement_view) parts.now)) (element.spell_else (optional statement_view last.now) w)))) self.old self.new) }
+        ensures { OnOk result (Prints (element.spell_if test.now body.now parts.now last.now)
+            self.old self.new) }
     {
         self.head(Keyword::If, test)?;
         self.statement(body)?;
@@ -137,7 +141,8 @@ impl Printer {
 
     #[cycle(statements)]
     fn elseif(&mut self, part: &ElseIf<Boxed<Stmt>>) -> Result<(), NoMemory>
-        ensures { OnOk result (Prints (element.spell_elseif (element.elseif_with statement_view part.now)) self.old self.new) }
+        ensures { OnOk result (Prints (element.spell_elseif (element.elseif_with statement_view part.now))
+            self.old self.new) }
     {
         self.head(Keyword::ElseIf, &part.test)?;
         self.statement(part.body.get())
@@ -145,7 +150,8 @@ impl Printer {
 
     #[cycle(statements)]
     fn otherwise(&mut self, last: &Option<Boxed<Stmt>>) -> Result<(), NoMemory>
-        ensures { OnOk result (Prints (element.spell_else (optional statement_view last.now)) self.old self.new) }
+        ensures { OnOk result (Prints (element.spell_else (optional statement_view last.now))
+            self.old self.new) }
     {
         match last {
             None => Ok(()),
@@ -164,7 +170,8 @@ impl Printer {
         parts: &[ElseIf<Items<Stmt>>],
         last: &Option<Items<Stmt>>,
     ) -> Result<(), NoMemory>
-        ensures { OnOk result (Prints (λ w. spelling.spell_head word.If (view test.now) (symbol.punct mark.Colon ∷ spelling.spell_statements (shown.list_view (map statement_view body.now)) (spelling.spell_elseif_lists (shown.elseif_lists_from tree.no_elseif_list (map (element.elseif_list_with statement_view) parts.now)) (element.spell_else_list (optional (map statement_view) last.now) (symbol.keyword word.EndIf ∷ symbol.punct mark.Semicolon ∷ w))))) self.old self.new) }
+        ensures { OnOk result (Prints (element.spell_if_lists test.now body.now parts.now last.now)
+            self.old self.new) }
     {
         self.list_behind(Keyword::If, test, body)?;
         for part in parts {
@@ -177,7 +184,8 @@ impl Printer {
     // A word, a test, and a list behind a colon.
     #[cycle(statements)]
     fn list_behind(&mut self, head: Keyword, test: &Expr, body: &[Stmt]) -> Result<(), NoMemory>
-        ensures { OnOk result (Prints (λ w. spelling.spell_head head (view test.now) (symbol.punct mark.Colon ∷ spelling.spell_statements (shown.list_view (map statement_view body.now)) w)) self.old self.new) }
+        ensures { OnOk result (Prints (element.spell_list_behind head test.now body.now)
+            self.old self.new) }
     {
         self.head(head, test)?;
         self.sign(COLON)?;
@@ -186,14 +194,16 @@ impl Printer {
 
     #[cycle(statements)]
     fn elseif_list(&mut self, part: &ElseIf<Items<Stmt>>) -> Result<(), NoMemory>
-        ensures { OnOk result (Prints (element.spell_elseif_list (element.elseif_list_with statement_view part.now)) self.old self.new) }
+        ensures { OnOk result (Prints (element.spell_elseif_list
+            (element.elseif_list_with statement_view part.now)) self.old self.new) }
     {
         self.list_behind(Keyword::ElseIf, &part.test, part.body.as_slice())
     }
 
     #[cycle(statements)]
     fn otherwise_list(&mut self, last: &Option<Items<Stmt>>) -> Result<(), NoMemory>
-        ensures { OnOk result (Prints (element.spell_else_list (optional (map statement_view) last.now)) self.old self.new) }
+        ensures { OnOk result (Prints (element.spell_else_list (optional (map statement_view) last.now))
+            self.old self.new) }
     {
         match last {
             None => Ok(()),
@@ -208,7 +218,7 @@ impl Printer {
 
     #[cycle(statements)]
     fn switch(&mut self, e: &Expr, form: SwitchForm, cases: &[Case<Stmt>]) -> Result<(), NoMemory>
-        ensures { OnOk result (Prints (λ w. spelling.spell_head word.Switch (view e.now) (spelling.cases_opening form ∷ spelling.spell_cases (shown.cases_from tree.no_case (map (element.case_with statement_view) cases.now)) (spelling.cases_closing form w))) self.old self.new) }
+        ensures { OnOk result (Prints (element.spell_switch e.now form cases.now) self.old self.new) }
     {
         self.switch_opening(e, form)?;
         for case in cases {
@@ -219,7 +229,8 @@ impl Printer {
 
     #[cycle(statements)]
     fn case(&mut self, case: &Case<Stmt>) -> Result<(), NoMemory>
-        ensures { OnOk result (Prints (element.spell_case (element.case_with statement_view case.now)) self.old self.new) }
+        ensures { OnOk result (Prints (element.spell_case (element.case_with statement_view case.now))
+            self.old self.new) }
     {
         self.label(&case.value)?;
         self.case_end(case.end)?;
@@ -235,7 +246,7 @@ impl Printer {
         catches: &[Catch<Stmt>],
         last: &Option<Items<Stmt>>,
     ) -> Result<(), NoMemory>
-        ensures { OnOk result (Prints (λ w. symbol.keyword word.Try ∷ element.spell_braces (map statement_view body.now) (spelling.spell_catches (shown.catches_from tree.no_catch (map (element.catch_with statement_view) catches.now)) (element.spell_finally (optional (map statement_view) last.now) w))) self.old self.new) }
+        ensures { OnOk result (Prints (element.spell_try body.now catches.now last.now) self.old self.new) }
     {
         self.keyword(Keyword::Try)?;
         self.braces(body)?;
@@ -247,7 +258,8 @@ impl Printer {
 
     #[cycle(statements)]
     fn catch(&mut self, catch: &Catch<Stmt>) -> Result<(), NoMemory>
-        ensures { OnOk result (Prints (element.spell_catch (element.catch_with statement_view catch.now)) self.old self.new) }
+        ensures { OnOk result (Prints (element.spell_catch (element.catch_with statement_view catch.now))
+            self.old self.new) }
     {
         self.catch_head(catch.classes.as_slice(), &catch.variable)?;
         self.braces(catch.body.as_slice())
@@ -255,7 +267,8 @@ impl Printer {
 
     #[cycle(statements)]
     fn finally(&mut self, last: &Option<Items<Stmt>>) -> Result<(), NoMemory>
-        ensures { OnOk result (Prints (element.spell_finally (optional (map statement_view) last.now)) self.old self.new) }
+        ensures { OnOk result (Prints (element.spell_finally (optional (map statement_view) last.now))
+            self.old self.new) }
     {
         match last {
             None => Ok(()),

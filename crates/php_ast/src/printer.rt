@@ -3,14 +3,16 @@
 ghost use Rattle.std.specs.Prelude.{◌≡◌, [], ◌∷◌, map, nat_lt, OnOk};
 ghost use Rattle.php_ast.specs.Print.{Prints, printed_symbol, sign_symbol, sign_symbols};
 ghost use Rattle.php_ast.specs.Symbol as symbol;
+ghost use Rattle.php_lex.specs.declared.kind.Keyword.TheVariants as word;
 ghost use Rattle.php_lex.specs.declared.kind.Punct.TheVariants as mark;
 ghost use Rattle.php_ast.specs.StatementSpelling.{sign_if};
 ghost use Rattle.php_ast.specs.Spelling.{member_symbol};
-ghost use Rattle.php_ast.specs.View.{word_view};
+ghost use Rattle.php_ast.specs.View.{member_view, word_view};
 
-use crate::print_signs::Sign;
+use crate::expression::Member;
+use crate::print_signs::{ARROW, DOUBLE_COLON, STATIC, Sign};
 use crate::printed::Printed;
-use crate::spot::Word;
+use crate::spot::{Name, Word};
 use php_base::NoMemory;
 use php_lex::{Keyword, Punct};
 use php_value::Text;
@@ -137,5 +139,45 @@ impl Printer {
             None => self.name(&word.text),
             Some(keyword) => self.keyword(keyword),
         }
+    }
+
+    // ---- names of members
+
+    // `-> name`
+    pub(crate) fn property_word(&mut self, word: &Word) -> Result<(), NoMemory>
+        ensures { OnOk result (Prints (λ w. symbol.punct mark.Arrow ∷ member_symbol (word_view word.now)
+            ∷ w) self.old self.new) }
+    {
+        self.sign(ARROW)?;
+        self.word(word)
+    }
+
+    // `-> $name`
+    pub(crate) fn property_variable(&mut self, name: &Name) -> Result<(), NoMemory>
+        ensures { OnOk result (Prints (λ w. symbol.punct mark.Arrow ∷ symbol.variable name.now.text ∷ w)
+            self.old self.new) }
+    {
+        self.sign(ARROW)?;
+        self.variable(&name.text)
+    }
+
+    // `:: name` and `:: $name`
+    pub(crate) fn member(&mut self, member: &Member) -> Result<(), NoMemory>
+        ensures { OnOk result (Prints (λ w. symbol.punct mark.DoubleColon ∷ member_symbol
+            (member_view member.now) ∷ w) self.old self.new) }
+    {
+        self.sign(DOUBLE_COLON)?;
+        match member {
+            Member::Word(word) => self.word(word),
+            Member::Variable(name) => self.variable(&name.text),
+        }
+    }
+
+    pub(crate) fn static_member(&mut self, member: &Member) -> Result<(), NoMemory>
+        ensures { OnOk result (Prints (λ w. symbol.keyword word.Static ∷ symbol.punct mark.DoubleColon
+            ∷ member_symbol (member_view member.now) ∷ w) self.old self.new) }
+    {
+        self.sign(STATIC)?;
+        self.member(member)
     }
 }
