@@ -50,6 +50,3 @@ mod SignatureTrace
 mod FunctionTrace
 mod MemberTrace
 mod ScriptTrace
-mod PrintWeights
-mod PrintLists
-mod PrintViews
