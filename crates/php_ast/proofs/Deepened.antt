@@ -11,7 +11,7 @@ use Rattle.php_ast.specs.Run.{either, if_some, ReadingOf, reading, if_whole, or_
 use Rattle.php_ast.specs.TooDeep.{taken, depths_taken, depth_inside}
 use Rattle.php_ast.proofs.LawProofs.{halt_unread, reads_back, nesting_agrees}
 use Rattle.php_ast.proofs.Inside.{Reader, whole_here}
-use Rattle.php_ast.proofs.Machines.{Halts, Holds, whole_in}
+use Rattle.php_ast.proofs.Machines.{Halts, Holds, IsSome, whole_in}
 
 -- the depths, so much deeper, and others behind them
 abbrev pub shifted : ℕ → List ℕ → List ℕ → List ℕ
@@ -109,3 +109,40 @@ end_depths inner stop step halts r depth_in depth k c (x ∷ w) m a h =
     ap (λ u. taken u (depth (r.on m) x) (λ q. depths_taken step depth q w)) (r.steps m x)
     ∙ ap (λ d. taken (either (if_some (inner m x) (λ q. Some (r.on q))) (if_some (if_whole (stop m [])) (r.ended x))) d (λ q. depths_taken step depth q w)) (c.counts m x)
     ∙ end_by inner stop step halts r depth_in depth k (inner m x) m x w a (λ q. end_depths inner stop step halts r depth_in depth k c w q a) h
+
+-- ---- without the state that follows
+
+some_by : {M N A : Type 0} (inner : M → Symbol → Option M) (stop : M → List Symbol → ReadingOf A) (step : N → Symbol → Option N) (halts : Halts M A stop) (r : Holds M N A inner stop step)
+    (depth_in : M → Symbol → ℕ) (depth : N → Symbol → ℕ) (k : ℕ) (c : CountsInside M N A inner stop step r depth_in depth k) (w : List Symbol) (m : M) (a : A) (t : Symbol) (v : List Symbol) (o : Option N)
+    → r.ended t a ≡ o → IsSome o → run_of inner stop m w ≡ reading a [] (t ∷ v)
+    → depths_taken step depth (r.on m) w ≡ shifted k (depths_taken inner depth_in m w) (taken o k (λ q. depths_taken step depth q v))
+some_by inner stop step halts r depth_in depth k c w m a t v (Some n) is goes h = machine_depths inner stop step halts r depth_in depth k c w m a t v n is h
+some_by inner stop step halts r depth_in depth k c w m a t v None is goes h = absurd goes
+
+pub some_depths : {M N A : Type 0} (inner : M → Symbol → Option M) (stop : M → List Symbol → ReadingOf A) (step : N → Symbol → Option N) (halts : Halts M A stop) (r : Holds M N A inner stop step)
+    (depth_in : M → Symbol → ℕ) (depth : N → Symbol → ℕ) (k : ℕ) (c : CountsInside M N A inner stop step r depth_in depth k) (w : List Symbol) (m : M) (a : A) (t : Symbol) (v : List Symbol)
+    → IsSome (r.ended t a) → run_of inner stop m w ≡ reading a [] (t ∷ v)
+    → depths_taken step depth (r.on m) w ≡ shifted k (depths_taken inner depth_in m w) (taken (r.ended t a) k (λ q. depths_taken step depth q v))
+some_depths inner stop step halts r depth_in depth k c w m a t v goes h = some_by inner stop step halts r depth_in depth k c w m a t v (r.ended t a) refl goes h
+
+-- where an inner machine begins with its first symbol, it was due before that
+pub some_entered : {M N : Type 0} (o : Option M) (on : M → N) (other : Option N) (n k x : ℕ) (f : N → List ℕ) → IsSome o → x ≡ n + k
+    → taken (if_some o (λ m. Some (on m))) x f ≡ taken (either (if_some o (λ m. Some (on m))) other) (depth_inside o n k) f
+some_entered None on other n k x f h is = absurd h
+some_entered (Some m) on other n k x f h is = ap (λ y. y ∷ f (on m)) is
+
+-- a machine that ends with the inner one
+wrap_by : {M N : Type 0} (inner : M → Symbol → Option M) (step : N → Symbol → Option N) (on : M → N) (depth_in : M → Symbol → ℕ) (depth : N → Symbol → ℕ) (o : Option M) (n : ℕ) (w : List Symbol)
+    → ((q : M) → depths_taken step depth (on q) w ≡ depths_taken inner depth_in q w)
+    → taken (if_some o (λ q. Some (on q))) n (λ q. depths_taken step depth q w) ≡ taken o n (λ q. depths_taken inner depth_in q w)
+wrap_by inner step on depth_in depth None n w next = refl
+wrap_by inner step on depth_in depth (Some q) n w next = ap (λ u. n ∷ u) (next q)
+
+pub wrapped_depths : {M N : Type 0} (inner : M → Symbol → Option M) (step : N → Symbol → Option N) (on : M → N) (depth_in : M → Symbol → ℕ) (depth : N → Symbol → ℕ)
+    → ((m : M) (t : Symbol) → step (on m) t ≡ if_some (inner m t) (λ q. Some (on q))) → ((m : M) (t : Symbol) → depth (on m) t ≡ depth_in m t)
+    → (w : List Symbol) (m : M) → depths_taken step depth (on m) w ≡ depths_taken inner depth_in m w
+wrapped_depths inner step on depth_in depth steps counts [] m = refl
+wrapped_depths inner step on depth_in depth steps counts (t ∷ w) m =
+    ap (λ u. taken u (depth (on m) t) (λ q. depths_taken step depth q w)) (steps m t)
+    ∙ ap (λ d. taken (if_some (inner m t) (λ q. Some (on q))) d (λ q. depths_taken step depth q w)) (counts m t)
+    ∙ wrap_by inner step on depth_in depth (inner m t) (depth_in m t) w (λ q. wrapped_depths inner step on depth_in depth steps counts w q)

@@ -51,10 +51,10 @@ function_halts form = record { unread = function_unread form; tree = function_tr
 
 -- ---- the statements of a body
 
-abbrev signature_in : {N : Type 0} (form : FunctionForm N) (r : Bool) (n : N) → Holds SignatureState (FunctionState N) (Signature Nothing) advance_signature halt_signature (advance_function form)
+abbrev pub signature_in : {N : Type 0} (form : FunctionForm N) (r : Bool) (n : N) → Holds SignatureState (FunctionState N) (Signature Nothing) advance_signature halt_signature (advance_function form)
 signature_in form r n = record { on = λ m. in_signature r n m; ended = λ t s. body_step form r n s t; steps = λ m t. refl }
 
-abbrev statement_in : {N : Type 0} (form : FunctionForm N) (r : Bool) (n : N) (s : Signature Nothing) (ss : Statements Nothing)
+abbrev pub statement_in : {N : Type 0} (form : FunctionForm N) (r : Bool) (n : N) (s : Signature Nothing) (ss : Statements Nothing)
     → Holds StatementState (FunctionState N) (Statement Nothing) advance_statement halt_statement (advance_function form)
 statement_in form r n s ss = record { on = λ m. in_statement r n s ss m; ended = λ t a. block_step r n s (and_statement ss a) t; steps = λ m t. refl }
 
@@ -67,11 +67,11 @@ starts_no_brace (punct p) h = punct_no_brace p h
 starts_no_brace _ h = refl
 
 -- The symbols go on with a block, and with no statement before them.
-record Continues {N : Type 0} (r : Bool) (n : N) (s : Signature Nothing) (t : Symbol) (w : List Symbol) : Type 0 where
+pub record Continues {N : Type 0} (r : Bool) (n : N) (s : Signature Nothing) (t : Symbol) (w : List Symbol) : Type 0 where
   pub quiet : Quiet (t ∷ w)
   pub goes : (ss : Statements Nothing) → IsSome (block_step r n s ss t)
 
-abbrev ContinuesBody : {N : Type 0} → Bool → N → Signature Nothing → List Symbol → Type 0
+abbrev pub ContinuesBody : {N : Type 0} → Bool → N → Signature Nothing → List Symbol → Type 0
 ContinuesBody r n s [] = ⊥
 ContinuesBody r n s (t ∷ w) = Continues r n s t w
 
@@ -80,7 +80,7 @@ goes_on : {N : Type 0} (r : Bool) (n : N) (s : Signature Nothing) (ss : Statemen
 goes_on r n s ss t true is h go = cc
 goes_on r n s ss t false is h go = some_in (λ m. in_statement r n s ss m) (advance_statement (due_statement []) t) (begin_goes [] t go)
 
-starts_continue : {N : Type 0} (r : Bool) (n : N) (s : Signature Nothing) (w : List Symbol) → StartsStatement w → ContinuesBody r n s w
+pub starts_continue : {N : Type 0} (r : Bool) (n : N) (s : Signature Nothing) (w : List Symbol) → StartsStatement w → ContinuesBody r n s w
 starts_continue r n s [] h = absurd h
 starts_continue r n s (t ∷ w) h = record { quiet = starts_quiet (t ∷ w) h; goes = λ ss. goes_on r n s ss t (is_right_brace t) refl (starts_no_brace t h) h }
 
@@ -104,11 +104,11 @@ body_read form r n s (and_statement ss a) (t ∷ w) p h =
 
 -- ---- a function
 
-ends_at_brace : (result : Option (Type_of Nothing)) (w : List Symbol) → ResultEnds result (punct mark.LeftBrace ∷ w)
+pub ends_at_brace : (result : Option (Type_of Nothing)) (w : List Symbol) → ResultEnds result (punct mark.LeftBrace ∷ w)
 ends_at_brace None w = refl
 ends_at_brace (Some t) w = tt
 
-ends_at_semicolon : (result : Option (Type_of Nothing)) (w : List Symbol) → ResultEnds result (punct mark.Semicolon ∷ w)
+pub ends_at_semicolon : (result : Option (Type_of Nothing)) (w : List Symbol) → ResultEnds result (punct mark.Semicolon ∷ w)
 ends_at_semicolon None w = refl
 ends_at_semicolon (Some t) w = tt
 

@@ -1,5 +1,6 @@
 mod Examples
 mod FormExamples
+mod WordExamples
 mod Signs
 mod Sound
 mod Fill
@@ -44,4 +45,9 @@ mod Shifts
 mod StatementShifts
 mod StatementTrace
 mod StatementTraceBack
+mod DeclarationShifts
+mod SignatureTrace
+mod FunctionTrace
+mod MemberTrace
+mod ScriptTrace
 mod PrintStatementWeights

@@ -84,7 +84,7 @@ names_led list (then_also xs y) x w = names_led list xs y (punct mark.Comma ∷ 
 
 -- ---- words
 
-pub advances : (m n : MemberState) (t : Symbol) (w : List Symbol) → advance_member m t ≡ Some n → run m (t ∷ w) ≡ run n w
+advances : (m n : MemberState) (t : Symbol) (w : List Symbol) → advance_member m t ≡ Some n → run m (t ∷ w) ≡ run n w
 advances m n t w is = ap (λ o. or_halted o (λ x. run x w) (halt_member m (t ∷ w))) is
 
 word_goes : (n : Word) (f : Word → MemberState) → IsWord n → word_here (member_symbol n) f ≡ Some (f n)
@@ -113,18 +113,18 @@ word_no_visibility (tree.named note text) h = refl
 word_no_visibility (tree.reserved note k) h = no_visibility k h
 word_no_visibility (tree.held note text) h = refl
 
-abbrev renamed : Rules → Option (Name Nothing) → Word → Option Visibility → Word → MemberState
+abbrev pub renamed : Rules → Option (Name Nothing) → Word → Option Visibility → Word → MemberState
 renamed r origin m seen n = due_rule_end r (renames tt origin m seen (Some n))
 
 pub alias_word : (r : Rules) (origin : Option (Name Nothing)) (m n : Word) → IsWord n → is_visibility_word n ≡ false
-    → advance_member (past_as r origin m) (member_symbol n) ≡ Some (due_rule_end r (renames tt origin m None (Some n)))
+    → advance_member (past_as r origin m) (member_symbol n) ≡ Some (renamed r origin m None n)
 alias_word r origin m n h apart =
     ap (λ o. either (if_some o (λ seen. Some (past_visibility r origin m seen)))
     (either (word_here (member_symbol n) (renamed r origin m None)) (rule_end r (renames tt origin m None None) (member_symbol n)))) (word_no_visibility n apart)
     ∙ ap (λ o. either o (rule_end r (renames tt origin m None None) (member_symbol n))) (word_goes n (renamed r origin m None) h)
 
 pub seen_word : (r : Rules) (origin : Option (Name Nothing)) (m : Word) (v : Visibility) (n : Word) → IsWord n
-    → advance_member (past_visibility r origin m v) (member_symbol n) ≡ Some (due_rule_end r (renames tt origin m (Some v) (Some n)))
+    → advance_member (past_visibility r origin m v) (member_symbol n) ≡ Some (renamed r origin m (Some v) n)
 seen_word r origin m v n h = ap (λ o. either o (rule_end r (renames tt origin m (Some v) None) (member_symbol n))) (word_goes n (renamed r origin m (Some v)) h)
 
 pub constant_word : (ms : Modifiers) (xs : Sequence (ClassConstant Nothing)) (n : Word) → IsWord n → advance_member (due_constant ms xs) (member_symbol n) ≡ Some (past_constant ms xs n)
@@ -162,7 +162,7 @@ rule_read r (prefers note origin m empty) w h = let x : true ≡ false = h.1 in 
 rule_read r (prefers note origin m (then_also xs x)) w h =
     instead_read r origin m (commas spell_name (then_also xs x) (punct mark.Semicolon ∷ w)) h.0 ∙ names_led (of_instead r origin m) xs x (punct mark.Semicolon ∷ w)
 
-abbrev rules_of : Names → Sequence (Rule Nothing) → Rules
+abbrev pub rules_of : Names → Sequence (Rule Nothing) → Rules
 rules_of traits rules = record { traits = traits; rules = rules }
 
 rules_read : (traits : Names) (rules : Sequence (Rule Nothing)) (w : List Symbol) → Each IsProperRule rules → run (due_rule (rules_of traits empty)) (joined spell_rule rules w) ≡ run (due_rule (rules_of traits rules)) w
@@ -171,10 +171,10 @@ rules_read traits (then_also rules rule) w h = rules_read traits rules (spell_ru
 
 -- ---- constants
 
-abbrev Constants : Type 0
+abbrev pub Constants : Type 0
 Constants = Sequence (ClassConstant Nothing)
 
-abbrev constant_reader : Modifiers → Constants → Word → Reader MemberState advance_member
+abbrev pub constant_reader : Modifiers → Constants → Word → Reader MemberState advance_member
 constant_reader ms xs n = record { on = λ m. in_constant ms xs n m; ended = λ t e. constant_end ms (with_constant xs n e) (ending t); steps = λ m t. refl }
 
 constant_named : (ms : Modifiers) (xs : Constants) (n : Word) (w : List Symbol) → IsWord n → run (due_constant ms xs) (spell_member_name n w) ≡ run (past_constant ms xs n) w
@@ -197,10 +197,10 @@ constants_led ms (then_also xs y) c w h = constants_led ms xs y (punct mark.Comm
 
 -- ---- properties
 
-abbrev Properties : Type 0
+abbrev pub Properties : Type 0
 Properties = Sequence (Variable Nothing)
 
-abbrev property_reader : Modifiers → Properties → Name Nothing → Reader MemberState advance_member
+abbrev pub property_reader : Modifiers → Properties → Name Nothing → Reader MemberState advance_member
 property_reader ms xs n = record { on = λ m. in_property ms xs n m; ended = λ t e. property_end ms (with_property xs n (Some e)) (ending t); steps = λ m t. refl }
 
 property_comma : (ms : Modifiers) (xs : Properties) (n : Name Nothing) (value : Option Form) (w : List Symbol) → IfAny value
@@ -224,12 +224,12 @@ properties_led ms m (then_also xs y) x w h =
 abbrev method_in : Modifiers → Wraps (FunctionState Word) MemberState (Routine Word) (Member Nothing) (advance_function method_form) (halt_function method_form) advance_member halt_member
 method_in ms = record { on = λ m. in_method ms m; whole = method_of ms; steps = λ m t. refl; halts = λ m w. refl }
 
-word_no_ampersand : (n : Word) → is_ampersand (member_symbol n) ≡ false
+pub word_no_ampersand : (n : Word) → is_ampersand (member_symbol n) ≡ false
 word_no_ampersand (tree.named note text) = refl
 word_no_ampersand (tree.reserved note k) = refl
 word_no_ampersand (tree.held note text) = refl
 
-may_lack : (body : Option (Statements Nothing)) → MayLack method_form body
+pub may_lack : (body : Option (Statements Nothing)) → MayLack method_form body
 may_lack None = refl
 may_lack (Some body) = tt
 

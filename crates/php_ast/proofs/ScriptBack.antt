@@ -37,14 +37,14 @@ run = run_of advance_script halt_script
 
 -- ---- the first symbol of a member
 
-abbrev begins_member : MemberSign → Bool
+abbrev pub begins_member : MemberSign → Bool
 begins_member (modifier_sign x) = true
 begins_member method_sign = true
 begins_member const_sign = true
 begins_member use_sign = true
 begins_member _ = false
 
-abbrev StartsMember : List Symbol → Type 0
+abbrev pub StartsMember : List Symbol → Type 0
 StartsMember [] = ⊥
 StartsMember (t ∷ w) = begins_member (member_sign t) ≡ true
 
@@ -56,7 +56,7 @@ modifiers_start : (ms : Sequence (Modifier Nothing)) (w : List Symbol) → Start
 modifiers_start empty w h = h
 modifiers_start (then_also ms m) w h = modifiers_start ms (spell_modifier m w) (modifier_starts m.word w)
 
-member_starts : (m : Member Nothing) (w : List Symbol) → IsProperMember m → StartsMember (spell_member m w)
+pub member_starts : (m : Member Nothing) (w : List Symbol) → IsProperMember m → StartsMember (spell_member m w)
 member_starts (uses note names) w p = refl
 member_starts (uses_by note names rules) w p = refl
 member_starts (class_constants ms items) w p = modifiers_start ms _ refl
@@ -64,7 +64,7 @@ member_starts (method m) w p = modifiers_start m.modifiers _ refl
 member_starts (properties empty variables) w p = let x : true ≡ false = p.0 in cc
 member_starts (properties (then_also ms m) variables) w p = modifiers_start ms (spell_modifier m (commas spell_variable variables (punct mark.Semicolon ∷ w))) (modifier_starts m.word (commas spell_variable variables (punct mark.Semicolon ∷ w)))
 
-first_goes : (t : Symbol) → begins_member (member_sign t) ≡ true → IsSome (advance_member (past_modifiers empty) t)
+pub first_goes : (t : Symbol) → begins_member (member_sign t) ≡ true → IsSome (advance_member (past_modifiers empty) t)
 first_goes t h = by_sign (member_sign t) h
   where
     by_sign : (x : MemberSign) → begins_member x ≡ true → IsSome (first_step empty x)
@@ -74,17 +74,17 @@ first_goes t h = by_sign (member_sign t) h
     by_sign use_sign h = tt
     by_sign _ h = cc
 
-starts_no_brace : (t : Symbol) → begins_member (member_sign t) ≡ true → is_right_brace t ≡ false
+pub starts_no_brace : (t : Symbol) → begins_member (member_sign t) ≡ true → is_right_brace t ≡ false
 starts_no_brace (punct p) h = cc
 starts_no_brace _ h = refl
 
 -- ---- members
 
-abbrev member_in : Items → Heading → Sequence (Member Nothing) → Holds MemberState ScriptState (Member Nothing) advance_member halt_member advance_script
+abbrev pub member_in : Items → Heading → Sequence (Member Nothing) → Holds MemberState ScriptState (Member Nothing) advance_member halt_member advance_script
 member_in items heading ms = record { on = λ m. in_member items heading ms m; ended = λ t x. member_step items heading (then_also ms x) t; steps = λ m t. refl }
 
 -- The symbols go on with members: with a further one, or their end.
-abbrev ContinuesMembers : Items → Heading → List Symbol → Type 0
+abbrev pub ContinuesMembers : Items → Heading → List Symbol → Type 0
 ContinuesMembers items heading [] = ⊥
 ContinuesMembers items heading (t ∷ w) = (ms : Sequence (Member Nothing)) → IsSome (member_step items heading ms t)
 
@@ -93,7 +93,7 @@ member_goes : (items : Items) (heading : Heading) (ms : Sequence (Member Nothing
 member_goes items heading ms t true is h go = cc
 member_goes items heading ms t false is h go = some_in (λ m. in_member items heading ms m) (advance_member (past_modifiers empty) t) (first_goes t go)
 
-starts_continue : (items : Items) (heading : Heading) (w : List Symbol) → StartsMember w → ContinuesMembers items heading w
+pub starts_continue : (items : Items) (heading : Heading) (w : List Symbol) → StartsMember w → ContinuesMembers items heading w
 starts_continue items heading [] h = absurd h
 starts_continue items heading (t ∷ w) h = λ ms. member_goes items heading ms t (is_right_brace t) refl (starts_no_brace t h) h
 
@@ -131,7 +131,7 @@ group_read items heading ms w p = brace_read heading ∙ members_read items head
 
 -- ---- headings
 
-abbrev words_led : Items → ClassWords → ScriptState
+abbrev pub words_led : Items → ClassWords → ScriptState
 words_led items empty = due_item items
 words_led items (then_also ws x) = past_class_words items (then_also ws x)
 
@@ -180,10 +180,10 @@ parents_read items n (then_also xs x) w = parents_led items n xs x w
 
 -- ---- items
 
-abbrev statement_in : Items → Holds StatementState ScriptState (Statement Nothing) advance_statement halt_statement advance_script
+abbrev pub statement_in : Items → Holds StatementState ScriptState (Statement Nothing) advance_statement halt_statement advance_script
 statement_in items = record { on = λ m. in_statement items m; ended = λ t a. item_step (then_also items (of_statement a)) t; steps = λ m t. refl }
 
-abbrev function_in : Items → Holds (FunctionState (Name Nothing)) ScriptState (Routine (Name Nothing)) (advance_function function_form) (halt_function function_form) advance_script
+abbrev pub function_in : Items → Holds (FunctionState (Name Nothing)) ScriptState (Routine (Name Nothing)) (advance_function function_form) (halt_function function_form) advance_script
 function_in items = record { on = λ m. in_function items m; ended = λ t f. item_step (then_also items (function_of f)) t; steps = λ m t. refl }
 
 keyword_statement : (k : Keyword) → starts_statement (keyword k) ≡ true → item_keyword k ≡ statement_sign
@@ -195,16 +195,16 @@ keyword_statement word.Interface h = cc
 keyword_statement word.Trait h = cc
 keyword_statement _ h = refl
 
-begins_statement : (t : Symbol) → starts_statement t ≡ true → item_sign t ≡ statement_sign
+pub begins_statement : (t : Symbol) → starts_statement t ≡ true → item_sign t ≡ statement_sign
 begins_statement (keyword k) h = keyword_statement k h
 begins_statement _ h = refl
 
 -- The symbols end, or go on with an item and with no statement before it.
-record Continues (t : Symbol) (w : List Symbol) : Type 0 where
+pub record Continues (t : Symbol) (w : List Symbol) : Type 0 where
   pub quiet : Quiet (t ∷ w)
   pub goes : (items : Items) → IsSome (item_step items t)
 
-abbrev ContinuesItems : List Symbol → Type 0
+abbrev pub ContinuesItems : List Symbol → Type 0
 ContinuesItems [] = Unit {0}
 ContinuesItems (t ∷ w) = Continues t w
 
@@ -224,7 +224,7 @@ words_continue (then_also ws x) w h = words_continue ws (spell_class_word x w) (
     by_word class_word.Abstract = record { quiet = record { strength = refl; catching = refl }; goes = λ items. tt }
     by_word class_word.Final = record { quiet = record { strength = refl; catching = refl }; goes = λ items. tt }
 
-item_continues : (x : Item Nothing) (w : List Symbol) → ContinuesItems (spell_item x w)
+pub item_continues : (x : Item Nothing) (w : List Symbol) → ContinuesItems (spell_item x w)
 item_continues (of_statement a) w = statement_continues (spell_statement a w) (statement_starts a w)
 item_continues (of_function f) w = record { quiet = record { strength = refl; catching = refl }; goes = λ items. tt }
 item_continues (of_class c) w = words_continue c.modifiers _ (record { quiet = record { strength = refl; catching = refl }; goes = λ items. tt })
@@ -247,7 +247,7 @@ statement_read items a (t ∷ w) p h =
     ∙ through_some advance_statement halt_statement advance_script halt_script statement_stops (statement_in items) (spell_statement a (t ∷ w)) (due_statement []) a t w
     (halt_script (due_item (then_also items (of_statement a))) (t ∷ w)) (h.goes (then_also items (of_statement a))) (statements_read_back a (t ∷ w) p (quiet_ends a (t ∷ w) h.quiet))
 
-abbrev behind_function : Function Nothing → List Symbol → List Symbol
+abbrev pub behind_function : Function Nothing → List Symbol → List Symbol
 behind_function f w = sign_if f.is_reference (punct mark.Ampersand) (spell_name f.name (spell_signature f.signature (spell_block f.body w)))
 
 function_read : (items : Items) (f : Function Nothing) (w : List Symbol) → IsProperFunction f → ContinuesItems w → run (due_item items) (spell_function f w) ≡ run (due_item (then_also items (of_function f))) w

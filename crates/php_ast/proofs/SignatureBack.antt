@@ -83,7 +83,7 @@ front_read : (xs : Params) (declared : Declared) (r v : Bool) (n : Name Nothing)
 front_read xs None r v n w = marks_untyped xs r v n w
 front_read xs (Some t) r v n w = type_read xs t.is_nullable t.base _ ∙ marks_typed xs (Some t) r v n w
 
-abbrev default_reader : Params → Param Nothing → Reader SignatureState advance_signature
+abbrev pub default_reader : Params → Param Nothing → Reader SignatureState advance_signature
 default_reader xs p = record { on = λ m. in_default xs p m; ended = λ t e. param_end (then_also xs (with_default p e)) (ending t); steps = λ m t. refl }
 
 -- a parameter up to a comma, and up to the parenthesis

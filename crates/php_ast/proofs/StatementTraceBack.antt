@@ -20,7 +20,7 @@ use Rattle.php_ast.specs.StatementSign.{body_strength}
 use Rattle.php_ast.specs.StatementForms.{list_open, Loop, while_loop, for_loop, foreach_loop, StatementList, of_block, of_if, of_elseif, of_else, of_loop, of_case, of_try, of_catch, of_finally, OpenStatement, if_open, elseif_open, else_open, loop_open, do_open, Around, Head, if_head, elseif_head, elseif_list_head, while_head, do_head, switch_head, of_echo, of_unset, of_starts, of_tests, of_steps, as_line, as_jump, as_thrown, as_test, as_walked, as_label, of_classes, due_statement, done, due_in_list, due_value, due_name, past_jump, past_loop, past_switch, due_case, past_default, past_block, looped}
 use Rattle.php_ast.specs.StatementMachine.{expected, labelled, before_semicolon, tested}
 use Rattle.php_ast.specs.StatementReading.{loop_word}
-use Rattle.php_ast.specs.StatementDepth.{is_body, is_body_at, statement_depth, depth_outside}
+use Rattle.php_ast.specs.StatementDepth.{is_body, is_body_at, statement_depth, depth_outside, statement_depths_read}
 use Rattle.php_ast.specs.StatementLaws.{head_behind, StatementEnds}
 use Rattle.php_ast.proofs.Trees.{starts}
 use Rattle.php_ast.proofs.StatementStarts.{statement_starts, led, static_fits}
@@ -365,3 +365,17 @@ mutual
       ∙ ap (λ u. d ∷ d ∷ u) (classes_trace body catches classes n o inside p.1
       ∙ ap (λ u. separated_nests name_nests classes (1 + d) ((1 + d) ∷ (1 + d) ∷ d ∷ u)) (list_trace (of_catch body catches classes n) ss o (punct mark.RightBrace ∷ w) p.2 (quiet_list ss _ (record { strength = refl; catching = refl }))
       ∙ ap (nests_statements ss (1 + d)) (end_traced (of_catch body catches classes n) ss o (punct mark.RightBrace) w _ refl))))
+
+-- ---- the whole
+
+stands_outside : (a : Statement Nothing) → stands a [] ≡ 0
+stands_outside (block note body) = refl
+stands_outside _ = refl
+
+nothing_taken : (a : Statement Nothing) (v : List Symbol) → trace (done a []) v ≡ []
+nothing_taken a [] = refl
+nothing_taken a (t ∷ v) = refl
+
+pub statement_nesting : (a : Statement Nothing) (v : List Symbol) → IsProper a → StatementEnds a v → statement_depths_read (due_statement []) (spell_statement a v) ≡ nests_statement a 0 []
+statement_nesting a v p h =
+    statement_trace a [] v p h ∙ ap (λ x. nests_statement a x (trace (done a []) v)) (stands_outside a) ∙ ap (nests_statement a 0) (nothing_taken a v)

@@ -9,6 +9,8 @@ use Rattle.php_ast.specs.Declarations.{Type_of, Signature, Member, Script}
 use Rattle.php_ast.specs.DeclarationSpelling.{spell_signature, spell_member, spell_script}
 use Rattle.php_ast.specs.ProperDeclaration.{IsProperSignature, IsProperMember, IsProperScript}
 use Rattle.php_ast.specs.DeclarationPlaced.{size_signature, size_script, signature_form, script_form, IsPlacedSignature, IsPlacedScript}
+use Rattle.php_ast.specs.DeclarationNesting.{signature_nests, member_nests, script_nests}
+use Rattle.php_ast.specs.DeclarationDepth.{signature_depths_read, member_depths_read, script_depths_read}
 use Rattle.php_ast.specs.SignatureMachine.{read_signature}
 use Rattle.php_ast.specs.MemberMachine.{read_member}
 use Rattle.php_ast.specs.ScriptMachine.{read_script}
@@ -75,3 +77,15 @@ SignatureSizesAgree = (s : Signature Nothing) (w : List Symbol) → length (spel
 
 abbrev pub ScriptSizesAgree : Type 0
 ScriptSizesAgree = (items : Script Nothing) → length (spell_script items) ≡ size_script items
+
+-- ---- nesting
+
+-- The nesting that a reading counts at each symbol is that of the tree.
+abbrev pub SignatureNestingAgrees : Type 0
+SignatureNestingAgrees = (s : Signature Nothing) (v : List Symbol) → IsProperSignature s → SignatureEnds s v → signature_depths_read (spell_signature s v) ≡ signature_nests s 0 []
+
+abbrev pub MemberNestingAgrees : Type 0
+MemberNestingAgrees = (m : Member Nothing) (v : List Symbol) → IsProperMember m → member_depths_read (spell_member m v) ≡ member_nests m 0 []
+
+abbrev pub ScriptNestingAgrees : Type 0
+ScriptNestingAgrees = (items : Script Nothing) → IsProperScript items → script_depths_read (spell_script items) ≡ script_nests items

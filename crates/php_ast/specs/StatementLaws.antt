@@ -9,6 +9,9 @@ use Rattle.php_ast.specs.StatementSpelling.{spell_statement}
 use Rattle.php_ast.specs.ProperStatement.{takes_else, IsProper}
 use Rattle.php_ast.specs.StatementSign.{Behind, by_other, by_catch, by_finally, behind, body_strength}
 use Rattle.php_ast.specs.StatementPlaced.{size_statement, statement_form, IsPlacedStatement}
+use Rattle.php_ast.specs.StatementNesting.{nests_statement}
+use Rattle.php_ast.specs.StatementForms.{due_statement}
+use Rattle.php_ast.specs.StatementDepth.{statement_depths_read}
 use Rattle.php_ast.specs.StatementReading.{read_statement}
 
 -- ---- what may follow a statement
@@ -77,3 +80,10 @@ OneStatementTree =
 -- A statement has as many tokens as the places of its notes say.
 abbrev pub StatementSizesAgree : Type 0
 StatementSizesAgree = (a : Statement Nothing) (w : List Symbol) → length (spell_statement a w) ≡ size_statement a + length w
+
+-- ---- nesting
+
+-- The nesting that a reading counts at each symbol is that of the tree.
+abbrev pub StatementNestingAgrees : Type 0
+StatementNestingAgrees =
+    (a : Statement Nothing) (v : List Symbol) → IsProper a → StatementEnds a v → statement_depths_read (due_statement []) (spell_statement a v) ≡ nests_statement a 0 []

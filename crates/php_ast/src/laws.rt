@@ -1,6 +1,8 @@
 // Laws of the grammar. Each is the contract of a function that does nothing: it says what holds of the
 // definitions in specs/, for every tree and every list of symbols.
 
+ghost use Rattle.php_ast.specs.DeclarationLaws.{MemberNestingAgrees, ScriptNestingAgrees};
+ghost use Rattle.php_ast.specs.DeclarationLaws.{SignatureNestingAgrees};
 ghost use Rattle.php_ast.specs.DeclarationLaws.{OneScript, OneScriptTree, OneSignature};
 ghost use Rattle.php_ast.specs.DeclarationLaws.{OneSignatureTree, ReadsMembersBack};
 ghost use Rattle.php_ast.specs.DeclarationLaws.{ReadsScriptsBack, ReadsSignaturesBack};
@@ -9,7 +11,8 @@ ghost use Rattle.php_ast.specs.Laws.{ReadingBegins, ReadsBack, OneForm, OneTree}
 ghost use Rattle.php_ast.specs.Laws.{NestingAgrees, SizesAgree, StopsExactly, Unfinished};
 ghost use Rattle.php_ast.specs.Rules.{RulesAgree};
 ghost use Rattle.php_ast.specs.StatementLaws.{OneStatement, ReadsStatementsBack};
-ghost use Rattle.php_ast.specs.StatementLaws.{OneStatementTree, StatementSizesAgree};
+ghost use Rattle.php_ast.specs.StatementLaws.{OneStatementTree, StatementNestingAgrees};
+ghost use Rattle.php_ast.specs.StatementLaws.{StatementSizesAgree};
 ghost use Rattle.php_ast.specs.TooDeep.{WalksAgree};
 
 /// What a reading has read begins the spelling of a proper tree.
@@ -125,4 +128,24 @@ pub fn one_signature_tree()
 /// Tokens spell at most one script, with its notes.
 pub fn one_script_tree()
     ensures { OneScriptTree }
+{}
+
+/// The nesting that the reading of a statement counts is that of the tree.
+pub fn statement_nesting_agrees()
+    ensures { StatementNestingAgrees }
+{}
+
+/// The nesting that the reading of a signature counts is that of the tree.
+pub fn signature_nesting_agrees()
+    ensures { SignatureNestingAgrees }
+{}
+
+/// The nesting that the reading of a member counts is that of the tree.
+pub fn member_nesting_agrees()
+    ensures { MemberNestingAgrees }
+{}
+
+/// The nesting that the reading of a script counts is that of the tree.
+pub fn script_nesting_agrees()
+    ensures { ScriptNestingAgrees }
 {}
