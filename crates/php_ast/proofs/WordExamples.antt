@@ -9,7 +9,6 @@ use Rattle.php_ast.specs.Tree as tree
 use Rattle.php_ast.specs.Tree.{variable, name, thin, colons, leaf, static_member, selected, new, class_found, from, step_property}
 use Rattle.php_ast.specs.Proper.{Proper}
 use Rattle.php_ast.specs.Machine.{Form, Nothing, Reading, any, any_symbol, any_member, read}
-use Rattle.php_ast.specs.Run.{ReadingOf}
 use Rattle.php_ast.specs.Statements.{Sequence, empty, then_also, Name}
 use Rattle.php_ast.specs.Declarations.{Signature, Rule, renames, prefers, Member, uses_by, class_constants, method}
 use Rattle.php_ast.specs.ProperDeclaration.{IsProperMember}
