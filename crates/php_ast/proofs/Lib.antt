@@ -1,5 +1,6 @@
 mod Examples
 mod FormExamples
+mod WordExamples
 mod Signs
 mod Sound
 mod Fill

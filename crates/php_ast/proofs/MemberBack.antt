@@ -7,23 +7,23 @@ use Rattle.php_ast.specs.declared.declaration.ModifierWord.{ModifierWord}
 use Rattle.php_ast.specs.declared.declaration.ModifierWord.TheVariants as modifier
 use Rattle.php_ast.specs.declared.declaration.Visibility.{Visibility}
 use Rattle.php_ast.specs.declared.declaration.Visibility.TheVariants as visibility
-use Rattle.php_ast.specs.Symbol as symbol
 use Rattle.php_ast.specs.Symbol.{Symbol, keyword, punct}
 use Rattle.php_ast.specs.Tree as tree
 use Rattle.php_ast.specs.Spelling.{spell, member_symbol}
 use Rattle.php_ast.specs.Proper.{IsWord}
-use Rattle.php_ast.specs.Sign.{is_ampersand, word_of}
-use Rattle.php_ast.specs.Machine.{Nothing, Form}
+use Rattle.php_ast.specs.Sign.{is_ampersand}
+use Rattle.php_ast.specs.Machine.{Nothing, Form, pick}
 use Rattle.php_ast.specs.Run.{either, if_some, ReadingOf, reading, or_halted, run_of}
 use Rattle.php_ast.specs.Statements.{Sequence, empty, then_also, Name, Variable, Statements}
 use Rattle.php_ast.specs.StatementSpelling.{commas, sign_if, spell_name, spell_variable, spell_value}
 use Rattle.php_ast.specs.ProperStatement.{Each, IfAny}
 use Rattle.php_ast.specs.Declarations.{Modifier, ClassConstant, Rule, renames, prefers, Member, uses, uses_by, class_constants, method, properties}
 use Rattle.php_ast.specs.DeclarationSpelling.{joined, modifier_word, spell_modifier, visibility_word, spell_visibility, spell_member_name, spell_alias, spell_origin, spell_rule, spell_class_constant, spell_member, spell_signature, spell_method_body}
-use Rattle.php_ast.specs.ProperDeclaration.{is_visibility, IsAlias, IsProperRule, IsProperConstant, IsProperMember}
-use Rattle.php_ast.specs.StatementSign.{ending}
+use Rattle.php_ast.specs.ProperDeclaration.{is_visibility, is_visibility_word, IsAlias, IsProperRule, IsProperConstant, IsProperMember}
+use Rattle.php_ast.specs.StatementSign.{ending, is_right_brace}
 use Rattle.php_ast.specs.FunctionMachine.{method_form, Routine, FunctionState, past_function, advance_function, halt_function}
-use Rattle.php_ast.specs.MemberMachine.{visibility_of_keyword, Word, Names, Modifiers, Rules, NamesIn, of_use, of_instead, MemberState, past_modifiers, due_trait, past_trait, due_constant, past_constant, in_constant, due_property, past_property, in_property, in_method, due_rule, past_as, past_visibility, due_rule_end, past_member, with_rule, constant_end, property_end, with_constant, with_property, method_of, advance_member, halt_member, read_member}
+use Rattle.php_ast.specs.MemberMachine.{visibility_of_keyword, visibility_of, Word, Names, Modifiers, Rules, NamesIn, of_use, of_instead, MemberState, past_modifiers, due_trait, past_trait, due_constant, past_constant, in_constant, due_property, past_property, in_property, in_method, due_rule, past_first_word, past_colons, past_second_word, past_as, past_visibility, due_rule_end, past_member, with_rule, word_here, rule_end, constant_end, property_end, with_constant, with_property, method_of, advance_member, halt_member, read_member}
+use Rattle.php_ast.proofs.Signs.{word_back}
 use Rattle.php_ast.proofs.Inside.{Reader, expression_read}
 use Rattle.php_ast.proofs.Machines.{Halts, Wraps, wrapped_machine}
 use Rattle.php_ast.proofs.StatementParts.{at_semicolon, at_comma}
@@ -82,31 +82,60 @@ names_led : (list : NamesIn) (xs : Names) (x : Name Nothing) (w : List Symbol) �
 names_led list empty x w = refl
 names_led list (then_also xs y) x w = names_led list xs y (punct mark.Comma ∷ spell_name x w)
 
--- ---- rules
+-- ---- words
 
-abbrev IsRuleWord : Word → Type 0
-IsRuleWord m = IsWord m
+advances : (m n : MemberState) (t : Symbol) (w : List Symbol) → advance_member m t ≡ Some n → run m (t ∷ w) ≡ run n w
+advances m n t w is = ap (λ o. or_halted o (λ x. run x w) (halt_member m (t ∷ w))) is
 
-origin_read : (r : Rules) (origin : Option (Name Nothing)) (m : Word) (w : List Symbol) → IsRuleWord m
-    → run (due_rule r) (spell_origin origin (spell_member_name m (keyword word.As ∷ w))) ≡ run (past_as r origin m) w
-origin_read r None (tree.named note text) w h = refl
-origin_read r None (tree.reserved note k) w h = refl
-origin_read r None (tree.held note text) w h = absurd h
-origin_read r (Some n) (tree.named note text) w h = refl
-origin_read r (Some n) (tree.reserved note k) w h = refl
-origin_read r (Some n) (tree.held note text) w h = absurd h
+word_goes : (n : Word) (f : Word → MemberState) → IsWord n → word_here (member_symbol n) f ≡ Some (f n)
+word_goes n f h = ap (λ o. if_some o (λ x. Some (f x))) (word_back n h)
 
-pub no_visibility : (k : Keyword) → is_visibility k ≡ false → visibility_of_keyword k ≡ None
+word_no_brace : (n : Word) → is_right_brace (member_symbol n) ≡ false
+word_no_brace (tree.named note text) = refl
+word_no_brace (tree.reserved note k) = refl
+word_no_brace (tree.held note text) = refl
+
+pub first_word : (r : Rules) (n : Word) → IsWord n → advance_member (due_rule r) (member_symbol n) ≡ Some (past_first_word r n)
+first_word r n h =
+    ap (λ b. pick b (Some (past_member (uses_by tt r.traits r.rules))) (word_here (member_symbol n) (past_first_word r))) (word_no_brace n) ∙ word_goes n (past_first_word r) h
+
+pub second_word : (r : Rules) (origin : Name Nothing) (n : Word) → IsWord n → advance_member (past_colons r origin) (member_symbol n) ≡ Some (past_second_word r origin n)
+second_word r origin n h = word_goes n (past_second_word r origin) h
+
+no_visibility : (k : Keyword) → is_visibility k ≡ false → visibility_of_keyword k ≡ None
 no_visibility word.Public h = cc
 no_visibility word.Protected h = cc
 no_visibility word.Private h = cc
 no_visibility _ h = refl
 
-keyword_alias : (r : Rules) (origin : Option (Name Nothing)) (m : Word) (k : Keyword) (w : List Symbol) → visibility_of_keyword k ≡ None
-    → run (past_as r origin m) (keyword k ∷ punct mark.Semicolon ∷ w) ≡ run (due_rule (with_rule r (renames tt origin m None (Some (tree.reserved tt k))))) w
-keyword_alias r origin m k w h =
-    ap (λ o. or_halted (either (if_some o (λ seen. Some (past_visibility r origin m seen))) (Some (due_rule_end r (renames tt origin m None (Some (tree.reserved tt k))))))
-    (λ n. run n (punct mark.Semicolon ∷ w)) (halt_member (past_as r origin m) (keyword k ∷ punct mark.Semicolon ∷ w))) h
+word_no_visibility : (n : Word) → is_visibility_word n ≡ false → visibility_of (member_symbol n) ≡ None
+word_no_visibility (tree.named note text) h = refl
+word_no_visibility (tree.reserved note k) h = no_visibility k h
+word_no_visibility (tree.held note text) h = refl
+
+abbrev pub renamed : Rules → Option (Name Nothing) → Word → Option Visibility → Word → MemberState
+renamed r origin m seen n = due_rule_end r (renames tt origin m seen (Some n))
+
+pub alias_word : (r : Rules) (origin : Option (Name Nothing)) (m n : Word) → IsWord n → is_visibility_word n ≡ false
+    → advance_member (past_as r origin m) (member_symbol n) ≡ Some (renamed r origin m None n)
+alias_word r origin m n h apart =
+    ap (λ o. either (if_some o (λ seen. Some (past_visibility r origin m seen)))
+    (either (word_here (member_symbol n) (renamed r origin m None)) (rule_end r (renames tt origin m None None) (member_symbol n)))) (word_no_visibility n apart)
+    ∙ ap (λ o. either o (rule_end r (renames tt origin m None None) (member_symbol n))) (word_goes n (renamed r origin m None) h)
+
+pub seen_word : (r : Rules) (origin : Option (Name Nothing)) (m : Word) (v : Visibility) (n : Word) → IsWord n
+    → advance_member (past_visibility r origin m v) (member_symbol n) ≡ Some (renamed r origin m (Some v) n)
+seen_word r origin m v n h = ap (λ o. either o (rule_end r (renames tt origin m (Some v) None) (member_symbol n))) (word_goes n (renamed r origin m (Some v)) h)
+
+pub constant_word : (ms : Modifiers) (xs : Sequence (ClassConstant Nothing)) (n : Word) → IsWord n → advance_member (due_constant ms xs) (member_symbol n) ≡ Some (past_constant ms xs n)
+constant_word ms xs n h = word_goes n (past_constant ms xs) h
+
+-- ---- rules
+
+origin_read : (r : Rules) (origin : Option (Name Nothing)) (m : Word) (w : List Symbol) → IsWord m
+    → run (due_rule r) (spell_origin origin (spell_member_name m (keyword word.As ∷ w))) ≡ run (past_as r origin m) w
+origin_read r None m w h = advances (due_rule r) (past_first_word r m) (member_symbol m) (keyword word.As ∷ w) (first_word r m h)
+origin_read r (Some n) m w h = advances (past_colons r n) (past_second_word r n m) (member_symbol m) (keyword word.As ∷ w) (second_word r n m h)
 
 seen_read : (r : Rules) (origin : Option (Name Nothing)) (m : Word) (v : Visibility) (w : List Symbol) → run (past_as r origin m) (keyword (visibility_word v) ∷ w) ≡ run (past_visibility r origin m v) w
 seen_read r origin m visibility.Public w = refl
@@ -116,19 +145,16 @@ seen_read r origin m visibility.Private w = refl
 alias_read : (r : Rules) (origin : Option (Name Nothing)) (m : Word) (seen : Option Visibility) (alias : Option Word) (w : List Symbol) → IsAlias seen alias
     → run (past_as r origin m) (spell_visibility seen (spell_alias alias (punct mark.Semicolon ∷ w))) ≡ run (due_rule (with_rule r (renames tt origin m seen alias))) w
 alias_read r origin m None None w h = refl
-alias_read r origin m None (Some (tree.named note text)) w h = refl
-alias_read r origin m None (Some (tree.reserved note k)) w h = keyword_alias r origin m k w (no_visibility k h.1)
-alias_read r origin m None (Some (tree.held note text)) w h = absurd h.0
+alias_read r origin m None (Some n) w h =
+    advances (past_as r origin m) (renamed r origin m None n) (member_symbol n) (punct mark.Semicolon ∷ w) (alias_word r origin m n h.0 h.1)
 alias_read r origin m (Some v) None w h = seen_read r origin m v (punct mark.Semicolon ∷ w)
-alias_read r origin m (Some v) (Some (tree.named note text)) w h = seen_read r origin m v (symbol.name text ∷ punct mark.Semicolon ∷ w)
-alias_read r origin m (Some v) (Some (tree.reserved note k)) w h = seen_read r origin m v (keyword k ∷ punct mark.Semicolon ∷ w)
-alias_read r origin m (Some v) (Some (tree.held note text)) w h = absurd h
+alias_read r origin m (Some v) (Some n) w h =
+    seen_read r origin m v (member_symbol n ∷ punct mark.Semicolon ∷ w)
+    ∙ advances (past_visibility r origin m v) (renamed r origin m (Some v) n) (member_symbol n) (punct mark.Semicolon ∷ w) (seen_word r origin m v n h)
 
-instead_read : (r : Rules) (origin : Name Nothing) (m : Word) (w : List Symbol) → IsRuleWord m
+instead_read : (r : Rules) (origin : Name Nothing) (m : Word) (w : List Symbol) → IsWord m
     → run (due_rule r) (spell_name origin (punct mark.DoubleColon ∷ spell_member_name m (keyword word.InsteadOf ∷ w))) ≡ run (due_trait (of_instead r origin m) empty) w
-instead_read r origin (tree.named note text) w h = refl
-instead_read r origin (tree.reserved note k) w h = refl
-instead_read r origin (tree.held note text) w h = absurd h
+instead_read r origin m w h = advances (past_colons r origin) (past_second_word r origin m) (member_symbol m) (keyword word.InsteadOf ∷ w) (second_word r origin m h)
 
 rule_read : (r : Rules) (rule : Rule Nothing) (w : List Symbol) → IsProperRule rule → run (due_rule r) (spell_rule rule w) ≡ run (due_rule (with_rule r rule)) w
 rule_read r (renames note origin m seen alias) w h = origin_read r origin m (spell_visibility seen (spell_alias alias (punct mark.Semicolon ∷ w))) h.0 ∙ alias_read r origin m seen alias w h.1
@@ -152,9 +178,7 @@ abbrev pub constant_reader : Modifiers → Constants → Word → Reader MemberS
 constant_reader ms xs n = record { on = λ m. in_constant ms xs n m; ended = λ t e. constant_end ms (with_constant xs n e) (ending t); steps = λ m t. refl }
 
 constant_named : (ms : Modifiers) (xs : Constants) (n : Word) (w : List Symbol) → IsWord n → run (due_constant ms xs) (spell_member_name n w) ≡ run (past_constant ms xs n) w
-constant_named ms xs (tree.named note text) w h = refl
-constant_named ms xs (tree.reserved note k) w h = refl
-constant_named ms xs (tree.held note text) w h = absurd h
+constant_named ms xs n w h = advances (due_constant ms xs) (past_constant ms xs n) (member_symbol n) w (constant_word ms xs n h)
 
 constant_comma : (ms : Modifiers) (xs : Constants) (c : ClassConstant Nothing) (w : List Symbol) → IsProperConstant c
     → run (due_constant ms xs) (spell_class_constant c (punct mark.Comma ∷ w)) ≡ run (due_constant ms (then_also xs c)) w
@@ -200,11 +224,6 @@ properties_led ms m (then_also xs y) x w h =
 abbrev method_in : Modifiers → Wraps (FunctionState Word) MemberState (Routine Word) (Member Nothing) (advance_function method_form) (halt_function method_form) advance_member halt_member
 method_in ms = record { on = λ m. in_method ms m; whole = method_of ms; steps = λ m t. refl; halts = λ m w. refl }
 
-pub method_word : (n : Word) → IsWord n → word_of (member_symbol n) ≡ Some n
-method_word (tree.named note text) h = refl
-method_word (tree.reserved note k) h = refl
-method_word (tree.held note text) h = absurd h
-
 pub word_no_ampersand : (n : Word) → is_ampersand (member_symbol n) ≡ false
 word_no_ampersand (tree.named note text) = refl
 word_no_ampersand (tree.reserved note k) = refl
@@ -235,7 +254,7 @@ members_read_back (method m) w p =
     modifiers_read m.modifiers (keyword word.Function ∷ sign_if m.is_reference (punct mark.Ampersand) (member_symbol m.name ∷ spell_signature m.signature (spell_method_body m.body w)))
     ∙ wrapped_machine (advance_function method_form) (halt_function method_form) advance_member halt_member (function_halts method_form) (method_in m.modifiers)
     (sign_if m.is_reference (punct mark.Ampersand) (member_symbol m.name ∷ spell_signature m.signature (spell_method_body m.body w))) past_function _ w
-    (functions_read_back method_form m.is_reference m.name (member_symbol m.name) m.signature m.body w (method_word m.name p.0) (word_no_ampersand m.name) p.1 p.2 (may_lack m.body))
+    (functions_read_back method_form m.is_reference m.name (member_symbol m.name) m.signature m.body w (word_back m.name p.0) (word_no_ampersand m.name) p.1 p.2 (may_lack m.body))
 members_read_back (properties empty xs) w p = let x : true ≡ false = p.0 in cc
 members_read_back (properties (then_also ms m) empty) w p = let x : true ≡ false = p.1 in cc
 members_read_back (properties (then_also ms m) (then_also xs x)) w p =

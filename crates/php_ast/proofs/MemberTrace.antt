@@ -1,21 +1,17 @@
 -- The nesting that the machine of members counts is that of the tree.
 use Rattle.std.proofs.Common.{◌≡◌, ℕ, true, false, Option, Some, None, List, [], ◌∷◌, refl, sym, ◌∙◌, ap}
-use Rattle.php_lex.specs.declared.kind.Keyword.{Keyword}
 use Rattle.php_lex.specs.declared.kind.Keyword.TheVariants as word
 use Rattle.php_lex.specs.declared.kind.Punct.TheVariants as mark
 use Rattle.php_ast.specs.declared.declaration.ModifierWord.{ModifierWord}
 use Rattle.php_ast.specs.declared.declaration.ModifierWord.TheVariants as modifier
 use Rattle.php_ast.specs.declared.declaration.Visibility.{Visibility}
 use Rattle.php_ast.specs.declared.declaration.Visibility.TheVariants as visibility
-use Rattle.php_ast.specs.Symbol as symbol
 use Rattle.php_ast.specs.Symbol.{Symbol, keyword, punct}
-use Rattle.php_ast.specs.Tree as tree
 use Rattle.php_ast.specs.Spelling.{spell, member_symbol}
 use Rattle.php_ast.specs.Nesting.{nests}
 use Rattle.php_ast.specs.Proper.{Proper, IsWord}
 use Rattle.php_ast.specs.Machine.{Nothing, Form, expects}
 use Rattle.php_ast.specs.Laws.{EndsBefore}
-use Rattle.php_ast.specs.Run.{either, if_some}
 use Rattle.php_ast.specs.TooDeep.{taken, depths_taken}
 use Rattle.php_ast.specs.Statements.{Sequence, empty, then_also, Name, Variable}
 use Rattle.php_ast.specs.StatementSpelling.{commas, sign_if, spell_name, spell_variable, spell_value}
@@ -27,13 +23,14 @@ use Rattle.php_ast.specs.DeclarationNesting.{joined_nests, modifier_nests, one_n
 use Rattle.php_ast.specs.ProperDeclaration.{IsAlias, IsProperRule, IsProperConstant, IsProperMember}
 use Rattle.php_ast.specs.StatementSign.{ending}
 use Rattle.php_ast.specs.FunctionMachine.{method_form, past_function, advance_function}
-use Rattle.php_ast.specs.MemberMachine.{visibility_of_keyword, Word, Names, Modifiers, Rules, NamesIn, of_use, of_instead, MemberState, past_modifiers, due_trait, past_trait, due_constant, in_constant, due_property, past_property, in_method, due_rule, past_as, past_visibility, due_rule_end, past_member, with_rule, constant_end, property_end, with_constant, with_property, advance_member}
+use Rattle.php_ast.specs.MemberMachine.{Word, Names, Modifiers, Rules, NamesIn, of_use, of_instead, MemberState, past_modifiers, due_trait, past_trait, due_constant, past_constant, in_constant, due_property, past_property, in_method, due_rule, past_first_word, past_colons, past_second_word, past_as, past_visibility, past_member, with_rule, constant_end, property_end, with_constant, with_property, advance_member}
 use Rattle.php_ast.specs.DeclarationDepth.{function_depth_at, names_in_depth, member_depth_at, member_depths_read}
+use Rattle.php_ast.proofs.Signs.{word_back}
 use Rattle.php_ast.proofs.Deepened.{Counts, expression_depths, wrapped_depths}
 use Rattle.php_ast.proofs.Shifts.{nests_shift}
 use Rattle.php_ast.proofs.StatementParts.{at_semicolon, at_comma}
 use Rattle.php_ast.proofs.FunctionTrace.{function_nesting}
-use Rattle.php_ast.proofs.MemberBack.{Constants, Properties, constant_reader, property_reader, no_visibility, rules_of, method_word, word_no_ampersand, may_lack}
+use Rattle.php_ast.proofs.MemberBack.{Constants, Properties, constant_reader, property_reader, first_word, second_word, renamed, alias_word, seen_word, constant_word, rules_of, word_no_ampersand, may_lack}
 
 abbrev trace : MemberState → List Symbol → List ℕ
 trace = depths_taken advance_member member_depth_at
@@ -55,20 +52,14 @@ names_led list (then_also xs y) x w = names_led list xs y (punct mark.Comma ∷ 
 
 -- ---- rules
 
+counts : (m n : MemberState) (t : Symbol) (w : List Symbol) (d : ℕ) → advance_member m t ≡ Some n → member_depth_at m t ≡ d → trace m (t ∷ w) ≡ d ∷ trace n w
+counts m n t w d is at = ap (λ o. taken o (member_depth_at m t) (λ k. trace k w)) is ∙ ap (λ k. k ∷ trace n w) at
+
 origin_trace : (r : Rules) (origin : Option (Name Nothing)) (m : Word) (w : List Symbol) → IsWord m
     → trace (due_rule r) (spell_origin origin (spell_member_name m (keyword word.As ∷ w))) ≡ origin_nests origin 1 (1 ∷ 1 ∷ trace (past_as r origin m) w)
-origin_trace r None (tree.named note text) w h = refl
-origin_trace r None (tree.reserved note k) w h = refl
-origin_trace r None (tree.held note text) w h = absurd h
-origin_trace r (Some n) (tree.named note text) w h = refl
-origin_trace r (Some n) (tree.reserved note k) w h = refl
-origin_trace r (Some n) (tree.held note text) w h = absurd h
-
-keyword_alias : (r : Rules) (origin : Option (Name Nothing)) (m : Word) (k : Keyword) (w : List Symbol) → visibility_of_keyword k ≡ None
-    → trace (past_as r origin m) (keyword k ∷ punct mark.Semicolon ∷ w) ≡ 1 ∷ 1 ∷ trace (due_rule (with_rule r (renames tt origin m None (Some (tree.reserved tt k))))) w
-keyword_alias r origin m k w h =
-    ap (λ o. taken (either (if_some o (λ seen. Some (past_visibility r origin m seen))) (Some (due_rule_end r (renames tt origin m None (Some (tree.reserved tt k)))))) 1
-    (λ n. trace n (punct mark.Semicolon ∷ w))) h
+origin_trace r None m w h = counts (due_rule r) (past_first_word r m) (member_symbol m) (keyword word.As ∷ w) 1 (first_word r m h) refl
+origin_trace r (Some n) m w h =
+    ap (λ u. 1 ∷ 1 ∷ u) (counts (past_colons r n) (past_second_word r n m) (member_symbol m) (keyword word.As ∷ w) 1 (second_word r n m h) refl)
 
 seen_trace : (r : Rules) (origin : Option (Name Nothing)) (m : Word) (v : Visibility) (w : List Symbol) → trace (past_as r origin m) (keyword (visibility_word v) ∷ w) ≡ 1 ∷ trace (past_visibility r origin m v) w
 seen_trace r origin m visibility.Public w = refl
@@ -78,19 +69,17 @@ seen_trace r origin m visibility.Private w = refl
 alias_trace : (r : Rules) (origin : Option (Name Nothing)) (m : Word) (seen : Option Visibility) (alias : Option Word) (w : List Symbol) → IsAlias seen alias
     → trace (past_as r origin m) (spell_visibility seen (spell_alias alias (punct mark.Semicolon ∷ w))) ≡ one_nests seen 1 (one_nests alias 1 (1 ∷ trace (due_rule (with_rule r (renames tt origin m seen alias))) w))
 alias_trace r origin m None None w h = refl
-alias_trace r origin m None (Some (tree.named note text)) w h = refl
-alias_trace r origin m None (Some (tree.reserved note k)) w h = keyword_alias r origin m k w (no_visibility k h.1)
-alias_trace r origin m None (Some (tree.held note text)) w h = absurd h.0
+alias_trace r origin m None (Some n) w h =
+    counts (past_as r origin m) (renamed r origin m None n) (member_symbol n) (punct mark.Semicolon ∷ w) 1 (alias_word r origin m n h.0 h.1) refl
 alias_trace r origin m (Some v) None w h = seen_trace r origin m v (punct mark.Semicolon ∷ w)
-alias_trace r origin m (Some v) (Some (tree.named note text)) w h = seen_trace r origin m v (symbol.name text ∷ punct mark.Semicolon ∷ w)
-alias_trace r origin m (Some v) (Some (tree.reserved note k)) w h = seen_trace r origin m v (keyword k ∷ punct mark.Semicolon ∷ w)
-alias_trace r origin m (Some v) (Some (tree.held note text)) w h = absurd h
+alias_trace r origin m (Some v) (Some n) w h =
+    seen_trace r origin m v (member_symbol n ∷ punct mark.Semicolon ∷ w)
+    ∙ ap (λ u. 1 ∷ u) (counts (past_visibility r origin m v) (renamed r origin m (Some v) n) (member_symbol n) (punct mark.Semicolon ∷ w) 1 (seen_word r origin m v n h) refl)
 
 instead_trace : (r : Rules) (origin : Name Nothing) (m : Word) (w : List Symbol) → IsWord m
     → trace (due_rule r) (spell_name origin (punct mark.DoubleColon ∷ spell_member_name m (keyword word.InsteadOf ∷ w))) ≡ 1 ∷ 1 ∷ 1 ∷ 1 ∷ trace (due_trait (of_instead r origin m) empty) w
-instead_trace r origin (tree.named note text) w h = refl
-instead_trace r origin (tree.reserved note k) w h = refl
-instead_trace r origin (tree.held note text) w h = absurd h
+instead_trace r origin m w h =
+    ap (λ u. 1 ∷ 1 ∷ u) (counts (past_colons r origin) (past_second_word r origin m) (member_symbol m) (keyword word.InsteadOf ∷ w) 1 (second_word r origin m h) refl)
 
 rule_trace : (r : Rules) (rule : Rule Nothing) (w : List Symbol) → IsProperRule rule → trace (due_rule r) (spell_rule rule w) ≡ rule_nests rule 1 (trace (due_rule (with_rule r rule)) w)
 rule_trace r (renames note origin m seen alias) w h =
@@ -118,9 +107,7 @@ constant_value ms xs c t w n h ends is =
     ∙ sym (nests_shift c.value 0 0 [] (0 ∷ trace n w)))
   where
     named : (m : Word) → IsWord m → trace (due_constant ms xs) (spell_member_name m (punct mark.Assign ∷ spell c.value (t ∷ w))) ≡ 0 ∷ 0 ∷ trace (in_constant ms xs m (expects [])) (spell c.value (t ∷ w))
-    named (tree.named note text) g = refl
-    named (tree.reserved note k) g = refl
-    named (tree.held note text) g = absurd g
+    named m g = counts (due_constant ms xs) (past_constant ms xs m) (member_symbol m) (punct mark.Assign ∷ spell c.value (t ∷ w)) 0 (constant_word ms xs m g) refl
 
 constants_led : (ms : Modifiers) (xs : Constants) (c : ClassConstant Nothing) (w : List Symbol) → Each IsProperConstant xs
     → trace (due_constant ms empty) (commas spell_class_constant (then_also xs c) w)
@@ -184,7 +171,7 @@ member_nesting (method m) w p =
     modifiers_trace m.modifiers (keyword word.Function ∷ rest)
     ∙ ap (λ u. joined_nests modifier_nests m.modifiers 0 (0 ∷ u))
     (wrapped_depths (advance_function method_form) advance_member (λ f. in_method m.modifiers f) function_depth_at member_depth_at (λ f t. refl) (λ f t. refl) rest past_function
-    ∙ function_nesting method_form m.is_reference m.name (member_symbol m.name) m.signature m.body w (method_word m.name p.0) (word_no_ampersand m.name) p.1 p.2 (may_lack m.body))
+    ∙ function_nesting method_form m.is_reference m.name (member_symbol m.name) m.signature m.body w (word_back m.name p.0) (word_no_ampersand m.name) p.1 p.2 (may_lack m.body))
 member_nesting (properties empty xs) w p = let x : true ≡ false = p.0 in cc
 member_nesting (properties (then_also ms m) empty) w p = let x : true ≡ false = p.1 in cc
 member_nesting (properties (then_also ms m) (then_also xs x)) w p =

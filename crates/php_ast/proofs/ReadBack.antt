@@ -10,19 +10,19 @@ use Rattle.php_ast.specs.declared.operator.Assign.TheVariants as setting
 use Rattle.php_ast.specs.declared.operator.ArrayForm.TheVariants as form
 use Rattle.php_ast.specs.Symbol as symbol
 use Rattle.php_ast.specs.Symbol.{Symbol, keyword, punct}
-use Rattle.php_ast.specs.Tree.{parentheses, emptiness, exiting, array, isset, Arrow, thin, colons, by_value, by_reference, Member, named, reserved, held}
+use Rattle.php_ast.specs.Tree.{parentheses, emptiness, exiting, array, isset, Arrow, thin, by_value, by_reference, Member}
 use Rattle.php_ast.specs.Tree.{leaf, template, enclosed, listed, exit, exit_empty, static_member, append, index, selected, computed, call, new, new_with, prefix, counted, binary, instance, static_instance, choice, short_choice, assign, yield_nothing, yield_value, yield_pair}
 use Rattle.php_ast.specs.Tree.{Items, none, and, skip, Lead, plain, reference, spread, keyed, keyed_reference, Pieces, no_piece, bytes, value, Class, class_name, class_static, class_found, Steps, from, step_property, step_index}
 use Rattle.php_ast.specs.Spelling.{spell, spell_items, spell_lead, spell_pieces, spell_class, spell_steps, comma, member_symbol}
 use Rattle.php_ast.specs.Power.{binary_row, choice_row, instance_row}
-use Rattle.php_ast.specs.Proper.{free, power, ends, takes_arrow, ends_bare, IsWord, Proper, AreProperItems, IsProperLead, AreProperPieces, IsProperClass, AreProperSteps, HasSuffix, IsCallable}
+use Rattle.php_ast.specs.Proper.{free, power, ends, takes_arrow, ends_bare, IsWord, IsMemberName, Proper, AreProperItems, IsProperLead, AreProperPieces, IsProperClass, AreProperSteps, HasSuffix, IsCallable}
 use Rattle.php_ast.specs.Sign.{Draw, joins, checks, chooses, sets, counts, applies, subscripts, selects, continuation, draw_strength, strength_of, is_arrow, ends_yield}
 use Rattle.php_ast.specs.Machine.{Nothing, Form, Holder, of_call, of_new, of_list, OpenForm, enclosed_open, items_open, index_open, computed_open, step_open, part_open, then_open, else_open, short_open, prefix_open, binary_open, instance_open, assign_open, yield_open, yield_value_open, OpenForms, State, expects, holds, past_items, past_value, past_static_colons, past_template, past_arrow, past_new, past_class, past_step, past_yield, least_power_at, least_power, ends_at, completed, seat_end, missing_end, closing_part, closed_with, holder_closing, is_array, after_by, after, assigning, goes_on, pick, start, halt_whole, halt_yield, is_last, or_halt, read_from}
 use Rattle.php_ast.proofs.Signs.{draw_symbol, continuation_draw}
 use Rattle.php_ast.proofs.Sound.{SoundList, SoundEnd, SoundLead}
 use Rattle.php_ast.proofs.Fill.{binary_bound, edge_bounds, prefix_bound, least_power_most, without_end, without_end_call}
 use Rattle.php_ast.proofs.Trees.{ends_positive, bare_ends, power_of_left, IsOpen, open_by_ends, operand_ends, Starts, starts}
-use Rattle.php_ast.proofs.Steps.{head_continuation, head_strength, after_low, suffix_on, operator_on, released_step, released_before, prefix_on, yield_on, leaf_on, enters_index, enter_exit, enter_then, enter_assign, enter_value, enter_items, enter_yield, exit_done, class_done, static_done}
+use Rattle.php_ast.proofs.Steps.{advances, head_continuation, head_strength, after_low, suffix_on, operator_on, released_step, released_before, prefix_on, yield_on, leaf_on, enters_index, enter_exit, enter_then, enter_assign, enter_value, enter_items, enter_yield, exit_done, class_done, static_done, member_advances, static_advances, property_advances}
 
 -- ---- what may follow a tree
 
@@ -101,24 +101,16 @@ not_true true h = h refl
 
 -- ---- steps with names
 
-member_on : (arrow : Arrow) (m : Member Nothing) (e : Form) (s : OpenForms) (w : List Symbol) → read_from (past_arrow arrow e s) (member_symbol m ∷ w) ≡ read_from (holds (selected e arrow m) s) w
-member_on thin (named spot text) e s w = refl
-member_on thin (reserved spot k) e s w = refl
-member_on thin (held spot text) e s w = refl
-member_on colons (named spot text) e s w = refl
-member_on colons (reserved spot k) e s w = refl
-member_on colons (held spot text) e s w = refl
+member_on : (arrow : Arrow) (m : Member Nothing) (e : Form) (s : OpenForms) (w : List Symbol) → IsMemberName m
+    → read_from (past_arrow arrow e s) (member_symbol m ∷ w) ≡ read_from (holds (selected e arrow m) s) w
+member_on arrow m e s w h = advances (past_arrow arrow e s) (holds (selected e arrow m) s) (member_symbol m) w (member_advances arrow m e s h)
 
-static_on : (m : Member Nothing) (s : OpenForms) (w : List Symbol) → read_from (past_static_colons s) (member_symbol m ∷ w) ≡ read_from (holds (static_member tt m) s) w
-static_on (named spot text) s w = refl
-static_on (reserved spot k) s w = refl
-static_on (held spot text) s w = refl
+static_on : (m : Member Nothing) (s : OpenForms) (w : List Symbol) → IsMemberName m → read_from (past_static_colons s) (member_symbol m ∷ w) ≡ read_from (holds (static_member tt m) s) w
+static_on m s w h = advances (past_static_colons s) (holds (static_member tt m) s) (member_symbol m) w (static_advances m s h)
 
 property_on : (m : Member Nothing) (steps : Steps Nothing) (s : OpenForms) (w : List Symbol) → IsWord m
     → read_from (past_step steps s) (member_symbol m ∷ w) ≡ read_from (past_class (class_found (step_property steps m)) s) w
-property_on (named spot text) steps s w h = refl
-property_on (reserved spot k) steps s w h = refl
-property_on (held spot text) steps s w h = absurd h
+property_on m steps s w h = advances (past_step steps s) (past_class (class_found (step_property steps m)) s) (member_symbol m) w (property_advances m steps s h)
 
 assigned_on : (op : Assign) (l : Form) (s : OpenForms) (v : List Symbol) → Starts v → read_from (assigning op l s) v ≡ read_from (expects (assign_open (by_value op) l ∷ s)) v
 assigned_on setting.Plain l s v h = enter_assign l s v h
@@ -295,7 +287,7 @@ mutual
   spelling_read (listed spot isset items) s w p near h = list_back (of_list isset) items s w p.0.0 p.0 p.1
   spelling_read (exit spot) s w p near h = exit_done s w h.low
   spelling_read (exit_empty spot) s w p near h = refl
-  spelling_read (static_member spot m) s w p near h = static_on m s w
+  spelling_read (static_member spot m) s w p near h = static_on m s w p
   spelling_read (append e) s w p near h =
       spelling_read e s (punct mark.LeftBracket ∷ punct mark.RightBracket ∷ w) p.1 (operand_near e s (omega arith)) (follows_draw subscripts e s (punct mark.RightBracket ∷ w) (suffix_low e p.0))
       ∙ suffix_on subscripts e s (punct mark.RightBracket ∷ w) (omega arith) (suffix_low e p.0)
@@ -309,7 +301,7 @@ mutual
   spelling_read (selected e arrow m) s w p near h =
       spelling_read e s (draw_symbol (selects arrow) ∷ member_symbol m ∷ w) p.1 (operand_near e s (omega arith)) (follows_draw (selects arrow) e s (member_symbol m ∷ w) (suffix_low e p.0))
       ∙ suffix_on (selects arrow) e s (member_symbol m ∷ w) (omega arith) (suffix_low e p.0)
-      ∙ member_on arrow m e s w
+      ∙ member_on arrow m e s w p.2
   spelling_read (computed e key) s w p near h =
       spelling_read e s (punct mark.Arrow ∷ punct mark.LeftBrace ∷ spell key (punct mark.RightBrace ∷ w)) p.1 (operand_near e s (omega arith))
       (follows_draw (selects thin) e s (punct mark.LeftBrace ∷ spell key (punct mark.RightBrace ∷ w)) (suffix_low e p.0))

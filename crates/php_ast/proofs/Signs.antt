@@ -1,5 +1,5 @@
 -- What a symbol is, from what it may do.
-use Rattle.std.proofs.Common.{◌≡◌, Bool, true, false, Option, Some, None, refl}
+use Rattle.std.proofs.Common.{◌≡◌, Bool, true, false, Option, Some, None, refl, ap}
 use Rattle.php_lex.specs.declared.kind.Keyword.{Keyword}
 use Rattle.php_lex.specs.declared.kind.Keyword.TheVariants as word
 use Rattle.php_lex.specs.declared.kind.Punct.{Punct}
@@ -22,8 +22,8 @@ use Rattle.php_ast.specs.Operators.{binary_symbol, prefix_symbol, count_symbol, 
 use Rattle.php_ast.specs.Tree as tree
 use Rattle.php_ast.specs.Tree.{Leaf, Enclosure, parentheses, emptiness, exiting, Listing, array, isset, thin, colons, Member, named, reserved, held}
 use Rattle.php_ast.specs.Spelling.{leaf_symbol, member_symbol, arrow_symbol}
-use Rattle.php_ast.specs.Proper.{IsWord}
-use Rattle.php_ast.specs.Sign.{Beginning, is_leaf, is_static, is_quote, is_exit, is_new, is_yield, encloses, lists, prefixes, begins_nothing, beginning, beginning_keyword, beginning_punct, beginning_cast, Draw, joins, checks, chooses, sets, counts, applies, subscripts, selects, Closer, paren, bracket, brace, comma, double_arrow, colon, semicolon, part_end, Continuation, draws, closes, neither, continuation, continuation_keyword, continuation_punct, word_of, member_of, Mark, refers, spreads, ends_item, begins, item_mark, is_ampersand, is_paren, is_right_paren, is_right_bracket, is_left_brace, is_colon}
+use Rattle.php_ast.specs.Proper.{may_name, IsWord, IsMemberName}
+use Rattle.php_ast.specs.Sign.{Beginning, is_leaf, is_static, is_quote, is_exit, is_new, is_yield, encloses, lists, prefixes, begins_nothing, beginning, beginning_keyword, beginning_punct, beginning_cast, Draw, joins, checks, chooses, sets, counts, applies, subscripts, selects, Closer, paren, bracket, brace, comma, double_arrow, colon, semicolon, part_end, Continuation, draws, closes, neither, continuation, continuation_keyword, continuation_punct, reserved_if, word_of, member_of, Mark, refers, spreads, ends_item, begins, item_mark, is_ampersand, is_paren, is_right_paren, is_right_bracket, is_left_brace, is_colon}
 
 -- ---- the symbol of each sign
 
@@ -213,33 +213,41 @@ item_says _ = tt
 -- ---- names
 
 abbrev pub MemberSays : Option (Member (Unit {0})) → Symbol → Type 0
-MemberSays (Some m) t = t ≡ member_symbol m
+MemberSays (Some m) t = (t ≡ member_symbol m) × IsMemberName m
 MemberSays None t = Unit {0}
 
 abbrev pub WordSays : Option (Member (Unit {0})) → Symbol → Type 0
 WordSays (Some m) t = (t ≡ member_symbol m) × IsWord m
 WordSays None t = Unit {0}
 
+keyword_word : (b : Bool) (k : Keyword) → may_name k ≡ b → WordSays (reserved_if b k) (keyword k)
+keyword_word true k may = (refl, may)
+keyword_word false k may = tt
+
+keyword_member : (b : Bool) (k : Keyword) → may_name k ≡ b → MemberSays (reserved_if b k) (keyword k)
+keyword_member true k may = (refl, may)
+keyword_member false k may = tt
+
 pub word_says : (t : Symbol) → WordSays (word_of t) t
 word_says (symbol.name text) = (refl, tt)
-word_says (keyword k) = (refl, tt)
+word_says (keyword k) = keyword_word (may_name k) k refl
 word_says _ = tt
 
 pub member_says : (t : Symbol) → MemberSays (member_of t) t
-member_says (symbol.variable text) = refl
-member_says (symbol.name text) = refl
-member_says (keyword k) = refl
+member_says (symbol.variable text) = (refl, tt)
+member_says (symbol.name text) = (refl, tt)
+member_says (keyword k) = keyword_member (may_name k) k refl
 member_says _ = tt
-
-pub member_back : (m : Member (Unit {0})) → member_of (member_symbol m) ≡ Some m
-member_back (named spot text) = refl
-member_back (reserved spot k) = refl
-member_back (held spot text) = refl
 
 pub word_back : (m : Member (Unit {0})) → IsWord m → word_of (member_symbol m) ≡ Some m
 word_back (named spot text) h = refl
-word_back (reserved spot k) h = refl
+word_back (reserved spot k) h = ap (λ b. reserved_if b k) h
 word_back (held spot text) h = absurd h
+
+pub member_back : (m : Member (Unit {0})) → IsMemberName m → member_of (member_symbol m) ≡ Some m
+member_back (named spot text) h = refl
+member_back (reserved spot k) h = word_back (reserved spot k) h
+member_back (held spot text) h = refl
 
 -- ---- tests of one symbol
 

@@ -9,7 +9,7 @@ use Rattle.php_ast.specs.Tree.{array, isset, Arrow, thin, colons, Member}
 use Rattle.php_ast.specs.Tree.{template, static_member, selected, new, static_instance}
 use Rattle.php_ast.specs.Tree.{Items, none, and, skip, Lead, plain, reference, spread, keyed, keyed_reference, Pieces, Class, class_name, class_static, class_found}
 use Rattle.php_ast.specs.Spelling.{spell_items, member_symbol}
-use Rattle.php_ast.specs.Proper.{is_none, AreArguments, AreArrayItems, AreProperItems, IsWord, IsProperClass, IsProperLead, is_alone_missing}
+use Rattle.php_ast.specs.Proper.{is_none, AreArguments, AreArrayItems, AreProperItems, IsWord, IsMemberName, IsProperClass, IsProperLead, is_alone_missing}
 use Rattle.php_ast.specs.Sign.{applies, subscripts, selects, Closer, paren, bracket, comma as closing_comma, Continuation, draws, member_of, Mark, refers, spreads, ends_item, begins, is_left_brace}
 use Rattle.php_ast.specs.Machine.{Nothing, Form, Holder, of_call, of_new, of_list, items_open, computed_open, step_open, instance_open, OpenForms, State, expects, holds, past_items, past_static, past_static_colons, past_template, past_arrow, past_new, past_class, past_step, closed_with, has_paren, holder_closing, is_array, is_arguments, may_end, ended_items, holder_front, opening_parts, allowed_if, after, goes_on, start, ended_by, item_step, static_alone, static_step, template_step, with_member, arrow_step, new_step, class_step}
 use Rattle.php_ast.proofs.Signs.{draw_symbol, closer_symbol, Says, MarkSays, MemberSays, member_says, WordSays, left_brace_says}
@@ -115,10 +115,10 @@ item_leads begins t h items s is a sound =
 
 -- ---- names, texts and classes
 
-pub member_leads : (o : Option (Member Nothing)) (f : Member Nothing → State) (m : State) (t : Symbol) → MemberSays o t → ((x : Member Nothing) → IsSoundState (f x))
+pub member_leads : (o : Option (Member Nothing)) (f : Member Nothing → State) (m : State) (t : Symbol) → MemberSays o t → ((x : Member Nothing) → IsMemberName x → IsSoundState (f x))
     → ((x : Member Nothing) (w : List Symbol) → symbols_so_far m (member_symbol x ∷ w) ≡ symbols_so_far (f x) w) → LeadsOn m t (with_member o f)
 member_leads None f m t is good same = tt
-member_leads (Some x) f m t is good same = led m (f x) t _ is (good x) (same x)
+member_leads (Some x) f m t is good same = led m (f x) t _ is.0 (good x is.1) (same x)
 
 pub word_leads : (o : Option (Member Nothing)) (f : Member Nothing → State) (m : State) (t : Symbol) → WordSays o t → ((x : Member Nothing) → IsWord x → IsSoundState (f x))
     → ((x : Member Nothing) (w : List Symbol) → symbols_so_far m (member_symbol x ∷ w) ≡ symbols_so_far (f x) w) → LeadsOn m t (with_member o f)
@@ -131,8 +131,8 @@ template_leads symbol.part pieces s h = ((h.0, omega (arith, least_power_most s)
 template_leads symbol.unquote pieces s h = ((closed_fits s (template tt pieces) h.0 refl refl h.1, record { no_arrow = refl; not_bare = refl }), λ w. refl)
 template_leads _ pieces s h = tt
 
-selected_good : (arrow : Arrow) (e : Form) (s : OpenForms) → IsSoundState (past_arrow arrow e s) → (x : Member Nothing) → IsSoundState (holds (selected e arrow x) s)
-selected_good arrow e s h x = (closed_fits s (selected e arrow x) (h.0, h.1) refl refl h.2, record { no_arrow = refl; not_bare = refl })
+selected_good : (arrow : Arrow) (e : Form) (s : OpenForms) → IsSoundState (past_arrow arrow e s) → (x : Member Nothing) → IsMemberName x → IsSoundState (holds (selected e arrow x) s)
+selected_good arrow e s h x is = (closed_fits s (selected e arrow x) (h.0, h.1, is) refl refl h.2, record { no_arrow = refl; not_bare = refl })
 
 pub arrow_leads : (arrow : Arrow) (t : Symbol) (e : Form) (s : OpenForms) → IsSoundState (past_arrow arrow e s) → LeadsOn (past_arrow arrow e s) t (arrow_step arrow e s t)
 arrow_leads thin t e s h =
@@ -188,5 +188,5 @@ pub static_leads : (x : Continuation) (t : Symbol) (s : OpenForms) → Says x t 
 static_leads (draws (selects colons)) t s is h = led (past_static s) (past_static_colons s) t _ is h (λ w. refl)
 static_leads x t s is h = static_alone_leads x t s is h
 
-pub static_named : (s : OpenForms) → IsSound s → (x : Member Nothing) → IsSoundState (holds (static_member tt x) s)
-static_named s h x = (closed_fits s (static_member tt x) tt refl refl h, record { no_arrow = refl; not_bare = refl })
+pub static_named : (s : OpenForms) → IsSound s → (x : Member Nothing) → IsMemberName x → IsSoundState (holds (static_member tt x) s)
+static_named s h x is = (closed_fits s (static_member tt x) is refl refl h, record { no_arrow = refl; not_bare = refl })

@@ -7,14 +7,14 @@ use Rattle.php_lex.specs.declared.kind.Punct.TheVariants as mark
 use Rattle.php_ast.specs.declared.operator.Prefix.{Prefix}
 use Rattle.php_ast.specs.declared.operator.Assign.TheVariants as setting
 use Rattle.php_ast.specs.Symbol.{Symbol, keyword, punct}
-use Rattle.php_ast.specs.Tree.{append, exiting, exit_empty, by_reference, keyed_reference, Leaf, colons, by_value}
-use Rattle.php_ast.specs.Tree.{leaf, Items, plain, keyed, Class, class_name, class_static, class_found, new, static_instance, exit, yield_nothing}
-use Rattle.php_ast.specs.Spelling.{leaf_symbol}
+use Rattle.php_ast.specs.Tree.{append, selected, static_member, exiting, exit_empty, by_reference, keyed_reference, Leaf, Arrow, thin, colons, by_value, Member, named, reserved, held}
+use Rattle.php_ast.specs.Tree.{leaf, Items, plain, keyed, Class, class_name, class_static, class_found, Steps, step_property, new, static_instance, exit, yield_nothing}
+use Rattle.php_ast.specs.Spelling.{leaf_symbol, member_symbol}
 use Rattle.php_ast.specs.Operators.{prefix_symbol}
-use Rattle.php_ast.specs.Proper.{free, ends, is_call}
-use Rattle.php_ast.specs.Sign.{Draw, applies, subscripts, selects, Continuation, draws, neither, continuation, draw_strength, strength_of, strength, is_arrow, ends_yield, item_mark, is_ampersand, is_paren, is_right_paren, is_right_bracket, is_colon}
-use Rattle.php_ast.specs.Machine.{Nothing, Form, Holder, OpenForm, enclosed_open, items_open, index_open, then_open, short_open, prefix_open, instance_open, assign_open, yield_open, OpenForms, State, expects, holds, holds_call, past_items, past_value, past_exit, past_exit_paren, past_static, past_index, past_class, past_question, past_assign, past_yield, operand_level, least_power_at, least_power, ends_at, completed, seated, seat_end, completed_all, missing_end, closing_part, pick, allowed_if, released, after_by, after, opened_by, continued, goes_on, started, start, item_step, class_step, static_step, advance, halt_whole, halt_short, halt_yield, is_last, halt, or_halt, read_from}
-use Rattle.php_ast.proofs.Signs.{draw_symbol, continuation_draw, beginning_prefix, beginning_leaf, item_says, ampersand_says, paren_says, right_paren_says, right_bracket_says, colon_says, continuation_says, TestSays}
+use Rattle.php_ast.specs.Proper.{free, ends, is_call, IsWord, IsMemberName}
+use Rattle.php_ast.specs.Sign.{Draw, applies, subscripts, selects, Continuation, draws, neither, continuation, draw_strength, strength_of, strength, is_arrow, ends_yield, item_mark, is_ampersand, is_paren, is_right_paren, is_right_bracket, is_left_brace, is_colon, member_of}
+use Rattle.php_ast.specs.Machine.{Nothing, Form, Holder, OpenForm, enclosed_open, items_open, index_open, computed_open, then_open, short_open, prefix_open, instance_open, assign_open, yield_open, OpenForms, State, expects, holds, holds_call, past_items, past_value, past_exit, past_exit_paren, past_static, past_static_colons, past_index, past_arrow, past_class, past_step, past_question, past_assign, past_yield, operand_level, least_power_at, least_power, ends_at, completed, seated, seat_end, completed_all, missing_end, closing_part, pick, allowed_if, released, after_by, after, opened_by, continued, goes_on, started, start, item_step, with_member, class_step, static_step, advance, halt_whole, halt_short, halt_yield, is_last, halt, or_halt, read_from}
+use Rattle.php_ast.proofs.Signs.{draw_symbol, continuation_draw, beginning_prefix, beginning_leaf, item_says, ampersand_says, paren_says, right_paren_says, right_bracket_says, colon_says, continuation_says, TestSays, word_back, member_back}
 use Rattle.php_ast.proofs.Fill.{without_end, without_end_call, least_power_most}
 use Rattle.php_ast.proofs.Settle.{kept_power, releases_none}
 use Rattle.php_ast.proofs.Trees.{Starts, test_false, item_begins, yield_begins}
@@ -185,3 +185,22 @@ static_by _ l s h = refl
 pub static_done : (l : Form) (s : OpenForms) (w : List Symbol) → head_strength w < 80 → read_from (past_static (instance_open l ∷ s)) w ≡ read_from (holds (static_instance l tt) s) w
 static_done l s [] h = refl
 static_done l s (t ∷ w) h = ap (λ o. or_halt o (λ n. read_from n w) (halt_whole (static_instance l tt) s (t ∷ w))) (static_by (continuation t) l s h)
+
+-- ---- names of members
+
+member_no_brace : (m : Member Nothing) → is_left_brace (member_symbol m) ≡ false
+member_no_brace (named spot text) = refl
+member_no_brace (reserved spot k) = refl
+member_no_brace (held spot text) = refl
+
+pub member_advances : (arrow : Arrow) (m : Member Nothing) (e : Form) (s : OpenForms) → IsMemberName m → advance (past_arrow arrow e s) (member_symbol m) ≡ Some (holds (selected e arrow m) s)
+member_advances thin m e s h =
+    ap (λ b. pick b (Some (expects (computed_open e ∷ s))) (with_member (member_of (member_symbol m)) (λ x. holds (selected e thin x) s))) (member_no_brace m)
+    ∙ ap (λ o. with_member o (λ x. holds (selected e thin x) s)) (member_back m h)
+member_advances colons m e s h = ap (λ o. with_member o (λ x. holds (selected e colons x) s)) (member_back m h)
+
+pub static_advances : (m : Member Nothing) (s : OpenForms) → IsMemberName m → advance (past_static_colons s) (member_symbol m) ≡ Some (holds (static_member tt m) s)
+static_advances m s h = ap (λ o. with_member o (λ x. holds (static_member tt x) s)) (member_back m h)
+
+pub property_advances : (m : Member Nothing) (steps : Steps Nothing) (s : OpenForms) → IsWord m → advance (past_step steps s) (member_symbol m) ≡ Some (past_class (class_found (step_property steps m)) s)
+property_advances m steps s h = ap (λ o. with_member o (λ x. past_class (class_found (step_property steps x)) s)) (word_back m h)

@@ -6,12 +6,12 @@ use Rattle.php_ast.specs.declared.operator.Assign.TheVariants as setting
 use Rattle.php_ast.specs.declared.operator.ArrayForm.TheVariants as form
 use Rattle.php_ast.specs.Symbol as symbol
 use Rattle.php_ast.specs.Symbol.{Symbol, keyword, punct}
-use Rattle.php_ast.specs.Tree.{parentheses, emptiness, exiting, array, isset, Arrow, thin, colons, by_value, by_reference, Member, named, reserved, held}
+use Rattle.php_ast.specs.Tree.{parentheses, emptiness, exiting, array, isset, Arrow, thin, colons, by_value, by_reference, Member}
 use Rattle.php_ast.specs.Tree.{leaf, template, enclosed, listed, exit, exit_empty, static_member, append, index, selected, computed, call, new, new_with, prefix, counted, binary, instance, static_instance, choice, short_choice, assign, yield_nothing, yield_value, yield_pair}
 use Rattle.php_ast.specs.Tree.{Items, none, and, skip, Lead, plain, reference, spread, keyed, keyed_reference, Pieces, no_piece, bytes, value, Class, class_name, class_static, class_found, Steps, from, step_property, step_index}
 use Rattle.php_ast.specs.Spelling.{spell, spell_items, spell_lead, spell_pieces, spell_class, spell_steps, comma, member_symbol}
 use Rattle.php_ast.specs.Power.{binary_row, choice_row, instance_row}
-use Rattle.php_ast.specs.Proper.{power, ends, ends_bare, IsWord, Proper, AreProperItems, IsProperLead, AreProperPieces, IsProperClass, AreProperSteps}
+use Rattle.php_ast.specs.Proper.{power, ends, ends_bare, IsWord, IsMemberName, Proper, AreProperItems, IsProperLead, AreProperPieces, IsProperClass, AreProperSteps}
 use Rattle.php_ast.specs.Nesting.{nests, nests_items, nests_lead, nests_pieces, nests_class, nests_steps, comma_nests}
 use Rattle.php_ast.specs.Sign.{joins, checks, chooses, sets, counts, applies, subscripts, selects, is_arrow}
 use Rattle.php_ast.specs.Machine.{Nothing, Form, Holder, of_call, of_new, of_list, enclosed_open, items_open, index_open, computed_open, step_open, part_open, then_open, else_open, short_open, prefix_open, binary_open, instance_open, assign_open, yield_open, yield_value_open, OpenForms, expects, holds, past_items, past_value, past_exit, past_exit_paren, past_static, past_static_colons, past_template, past_arrow, past_new, past_class, past_step, least_power, ends_at, closed_with, holder_closing, is_array, after}
@@ -20,30 +20,24 @@ use Rattle.php_ast.proofs.Signs.{draw_symbol}
 use Rattle.php_ast.proofs.Sound.{SoundList, SoundEnd, SoundLead}
 use Rattle.php_ast.proofs.Fill.{binary_bound, edge_bounds, prefix_bound}
 use Rattle.php_ast.proofs.Trees.{power_of_left, IsOpen, open_by_ends, operand_ends, Starts, starts}
-use Rattle.php_ast.proofs.Steps.{head_continuation, head_strength, after_low}
+use Rattle.php_ast.proofs.Steps.{head_continuation, head_strength, after_low, member_advances, static_advances, property_advances}
 use Rattle.php_ast.proofs.ReadBack.{Follows, follows_draw, follows_paren, follows_bracket, follows_comma, follows_close, follows_shut, inside, ends_at_level, not_true, list_lead, list_skip, keyed_array, suffix_low, call_low, operand_near, operator_small}
 use Rattle.php_ast.proofs.TraceSteps.{counts_on, suffix_count, operator_count, close_count, instance_count, prefix_count, yield_count, leaf_count, index_enters, exit_enters, then_enters, assigned_enters, value_enters, items_enter, yield_enters, exit_ends, class_ends, static_ends, bare_ends_it, behind_suffix}
 
 -- ---- names
 
-member_counts : (arrow : Arrow) (m : Member Nothing) (e : Form) (s : OpenForms) (w : List Symbol) → depths_read (past_arrow arrow e s) (member_symbol m ∷ w) ≡ depth s ∷ depths_read (holds (selected e arrow m) s) w
-member_counts thin (named spot text) e s w = refl
-member_counts thin (reserved spot k) e s w = refl
-member_counts thin (held spot text) e s w = refl
-member_counts colons (named spot text) e s w = refl
-member_counts colons (reserved spot k) e s w = refl
-member_counts colons (held spot text) e s w = refl
+member_counts : (arrow : Arrow) (m : Member Nothing) (e : Form) (s : OpenForms) (w : List Symbol) → IsMemberName m
+    → depths_read (past_arrow arrow e s) (member_symbol m ∷ w) ≡ depth s ∷ depths_read (holds (selected e arrow m) s) w
+member_counts arrow m e s w h = counts_on (past_arrow arrow e s) (holds (selected e arrow m) s) (member_symbol m) w (depth s) (member_advances arrow m e s h) refl
 
-static_counts : (m : Member Nothing) (s : OpenForms) (w : List Symbol) → depths_read (past_static_colons s) (member_symbol m ∷ w) ≡ depth s ∷ depths_read (holds (static_member tt m) s) w
-static_counts (named spot text) s w = refl
-static_counts (reserved spot k) s w = refl
-static_counts (held spot text) s w = refl
+static_counts : (m : Member Nothing) (s : OpenForms) (w : List Symbol) → IsMemberName m
+    → depths_read (past_static_colons s) (member_symbol m ∷ w) ≡ depth s ∷ depths_read (holds (static_member tt m) s) w
+static_counts m s w h = counts_on (past_static_colons s) (holds (static_member tt m) s) (member_symbol m) w (depth s) (static_advances m s h) refl
 
 property_counts : (m : Member Nothing) (steps : Steps Nothing) (s : OpenForms) (w : List Symbol) → IsWord m
     → depths_read (past_step steps s) (member_symbol m ∷ w) ≡ depth s ∷ depths_read (past_class (class_found (step_property steps m)) s) w
-property_counts (named spot text) steps s w h = refl
-property_counts (reserved spot k) steps s w h = refl
-property_counts (held spot text) steps s w h = absurd h
+property_counts m steps s w h =
+    counts_on (past_step steps s) (past_class (class_found (step_property steps m)) s) (member_symbol m) w (depth s) (property_advances m steps s h) refl
 
 -- ---- lists
 
@@ -153,7 +147,7 @@ mutual
   spelling_depths (exit spot) s w p near h = ap (λ v. depth s ∷ v) (exit_ends s w h.low)
   spelling_depths (exit_empty spot) s w p near h = ap (λ v. depth s ∷ v) (exit_paren_counts s (punct mark.RightParen ∷ w))
   spelling_depths (static_member spot m) s w p near h =
-      ap (λ v. depth s ∷ v) (static_colons_count s (member_symbol m ∷ w) ∙ ap (λ v. depth s ∷ v) (static_counts m s w))
+      ap (λ v. depth s ∷ v) (static_colons_count s (member_symbol m ∷ w) ∙ ap (λ v. depth s ∷ v) (static_counts m s w p))
   spelling_depths (append e) s w p near h =
       spelling_depths e s (punct mark.LeftBracket ∷ punct mark.RightBracket ∷ w) p.1 (operand_near e s (omega arith)) (follows_draw subscripts e s (punct mark.RightBracket ∷ w) (suffix_low e p.0))
       ∙ ap (nests e (depth s)) (suffix_count subscripts e s (punct mark.RightBracket ∷ w) (omega arith) (suffix_low e p.0))
@@ -166,7 +160,7 @@ mutual
       ∙ ap (λ m. nests key (1 + depth s) (depths_read m (punct mark.RightBracket ∷ w))) (after_low key (index_open e ∷ s) (omega arith))))
   spelling_depths (selected e arrow m) s w p near h =
       spelling_depths e s (draw_symbol (selects arrow) ∷ member_symbol m ∷ w) p.1 (operand_near e s (omega arith)) (follows_draw (selects arrow) e s (member_symbol m ∷ w) (suffix_low e p.0))
-      ∙ ap (nests e (depth s)) (suffix_count (selects arrow) e s (member_symbol m ∷ w) (omega arith) (suffix_low e p.0) ∙ ap (λ v. depth s ∷ v) (member_counts arrow m e s w))
+      ∙ ap (nests e (depth s)) (suffix_count (selects arrow) e s (member_symbol m ∷ w) (omega arith) (suffix_low e p.0) ∙ ap (λ v. depth s ∷ v) (member_counts arrow m e s w p.2))
   spelling_depths (computed e key) s w p near h =
       spelling_depths e s (punct mark.Arrow ∷ punct mark.LeftBrace ∷ spell key (punct mark.RightBrace ∷ w)) p.1 (operand_near e s (omega arith))
       (follows_draw (selects thin) e s (punct mark.LeftBrace ∷ spell key (punct mark.RightBrace ∷ w)) (suffix_low e p.0))

@@ -1,7 +1,9 @@
 -- Which trees of expressions are proper: each operator has the operands that its power allows, and
 -- each form stands only where it may.
 use Rattle.std.specs.Prelude.{◌≡◌, ◌≤◌, ◌<◌, ℕ, suc, min, Bool, true, false}
-use Rattle.php_ast.specs.Tree.{Listing, array, isset, Member, held}
+use Rattle.php_lex.specs.declared.kind.Keyword.{Keyword}
+use Rattle.php_lex.specs.declared.kind.Keyword.TheVariants as word
+use Rattle.php_ast.specs.Tree.{Listing, array, isset, Member, named, reserved, held}
 use Rattle.php_ast.specs.Tree.{Tree, leaf, template, enclosed, listed, exit, exit_empty, static_member, append, index, selected, computed, call, new, new_with, prefix, counted, binary, instance, static_instance, choice, short_choice, assign, yield_nothing, yield_value, yield_pair}
 use Rattle.php_ast.specs.Tree.{Items, none, and, skip, Lead, plain, reference, spread, keyed, keyed_reference, Pieces, no_piece, bytes, value, Class, class_name, class_static, class_found, Steps, from, step_property, step_index}
 use Rattle.php_ast.specs.Power.{Grouping, to_left, to_right, ungrouped, Row, binary_row, choice_row, instance_row, assign_row, prefix_power, yield_power}
@@ -124,9 +126,22 @@ abbrev pub is_call : {S : Type 0} → Tree S → Bool
 is_call (call f items) = true
 is_call _ = false
 
+-- ---- names of members
+
+-- Every keyword may name a member. `yield from` is none of them: it is a token of its own.
+abbrev pub may_name : Keyword → Bool
+may_name word.YieldFrom = false
+may_name _ = true
+
 abbrev pub IsWord : {S : Type 0} → Member S → Type 0
+IsWord (named spot text) = Unit {0}
+IsWord (reserved spot k) = may_name k ≡ true
 IsWord (held spot text) = ⊥
-IsWord _ = Unit {0}
+
+-- a word or a variable
+abbrev pub IsMemberName : {S : Type 0} → Member S → Type 0
+IsMemberName (held spot text) = Unit {0}
+IsMemberName m = IsWord m
 
 -- ---- lists
 
@@ -186,10 +201,10 @@ abbrev mutual
   Proper (listed spot listing items) = FitsListing listing items × AreProperItems items
   Proper (exit spot) = Unit {0}
   Proper (exit_empty spot) = Unit {0}
-  Proper (static_member spot member) = Unit {0}
+  Proper (static_member spot member) = IsMemberName member
   Proper (append e) = HasSuffix e × Proper e
   Proper (index e key) = HasSuffix e × Proper e × Proper key
-  Proper (selected e arrow member) = HasSuffix e × Proper e
+  Proper (selected e arrow member) = HasSuffix e × Proper e × IsMemberName member
   Proper (computed e key) = HasSuffix e × Proper e × (ends_bare key ≡ false) × Proper key
   Proper (call f items) = IsCallable f × Proper f × AreArguments items × AreProperItems items
   Proper (new spot class) = IsProperClass class

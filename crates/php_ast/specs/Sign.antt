@@ -21,7 +21,7 @@ use Rattle.php_ast.specs.Symbol.{Symbol, keyword, punct, cast}
 use Rattle.php_ast.specs.Tree as tree
 use Rattle.php_ast.specs.Tree.{Leaf, Enclosure, parentheses, emptiness, Listing, array, isset, Arrow, thin, colons, Member, named, reserved, held}
 use Rattle.php_ast.specs.Power.{binary_row, choice_row, instance_row}
-use Rattle.php_ast.specs.Proper.{free}
+use Rattle.php_ast.specs.Proper.{free, may_name}
 
 -- ---- at the beginning of an expression
 
@@ -220,9 +220,13 @@ ends_yield _ = false
 
 -- ---- behind the sign of a member
 
+abbrev pub reserved_if : Bool → Keyword → Option (Member (Unit {0}))
+reserved_if true k = Some (reserved tt k)
+reserved_if false k = None
+
 abbrev pub word_of : Symbol → Option (Member (Unit {0}))
 word_of (symbol.name text) = Some (named tt text)
-word_of (keyword k) = Some (reserved tt k)
+word_of (keyword k) = reserved_if (may_name k) k
 word_of _ = None
 
 abbrev pub member_of : Symbol → Option (Member (Unit {0}))
