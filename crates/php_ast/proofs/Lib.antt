@@ -18,6 +18,7 @@ mod RulesAgree
 mod StatementExamples
 mod StatementReadings
 mod DeclarationExamples
+mod BeginExamples
 mod TraceSteps
 mod TraceBack
 mod Sizes

@@ -34,7 +34,7 @@ use Rattle.php_ast.specs.declared.declaration.Rule as rust_rule
 use Rattle.php_lex.specs.declared.kind.Keyword.{Keyword}
 use Rattle.php_ast.specs.StatementView.{optional, sequence, sequence_from, rule_view, uses_view, name_view, names_view, statements_from, list_view, elseifs_from, elseif_lists_from, cases_from, catches_from, if_view, if_lists_view, try_view}
 use Rattle.php_ast.specs.PrintStatements.{spell_elseif, spell_elseif_list, spell_case, spell_braces, spell_catch, spell_else, spell_else_list, spell_finally}
-use Rattle.php_ast.specs.View.{Note, note, view, word_view, piece_more, pieces_from, item_more, items_from, argument_more, arguments_from, values_from, step_more, steps_from, property_of, with_suffix, with_suffixes, with_link, with_links}
+use Rattle.php_ast.specs.View.{Note, note, view, piece_more, pieces_from, item_more, items_from, argument_more, arguments_from, values_from, step_more, steps_from, property_of, with_suffix, with_suffixes, with_link, with_links}
 use Rattle.php_ast.specs.Print.{Prints}
 use Rattle.php_ast.specs.PrintElements.{spell_piece, spell_item, spell_argument, spell_property, spell_suffix, spell_link, spell_step}
 

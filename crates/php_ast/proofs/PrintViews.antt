@@ -5,7 +5,7 @@ use Rattle.php_ast.specs.declared.spot.Name as rust_name
 use Rattle.php_ast.specs.declared.spot.Word.{Word}
 use Rattle.php_ast.specs.declared.operator.Binary.{Binary}
 use Rattle.php_ast.specs.declared.expression.Expr.{Expr}
-use Rattle.php_ast.specs.declared.expression.Expr.TheVariants.{Chain, NewWith, Run, rolls-Chain, rolls-NewWith, rolls-Run}
+use Rattle.php_ast.specs.declared.expression.Expr.TheVariants.{Chain, Run, rolls-Chain, rolls-Run}
 use Rattle.php_ast.specs.declared.expression.Expr.TheOpen.{Expr-F}
 use Rattle.php_ast.specs.declared.expression.Expr.TheFolds.{fold-roll-Expr}
 use Rattle.php_ast.specs.declared.expression.Suffix.{Suffix}
@@ -13,20 +13,19 @@ use Rattle.php_ast.specs.declared.expression.Suffix.TheVariants as suffix
 use Rattle.php_ast.specs.declared.expression.Named.{Named}
 use Rattle.php_ast.specs.declared.expression.Named.TheVariants as arrow
 use Rattle.php_ast.specs.declared.expression.Member as behind_colons
-use Rattle.php_ast.specs.declared.expression.Class.{Class}
 use Rattle.php_ast.specs.declared.expression.Argument.{Argument}
 use Rattle.php_ast.specs.declared.expression.Argument.TheVariants as argument
 use Rattle.php_ast.specs.declared.expression.Link.{Link}
 use Rattle.php_ast.specs.declared.expression.Link.TheVariants as link
-use Rattle.php_ast.specs.Tree.{Tree, none, new_with}
-use Rattle.php_ast.specs.View.{Note, note, view, view_step, class_view, arguments_from, with_suffixes, with_links}
+use Rattle.php_ast.specs.Tree.{Tree}
+use Rattle.php_ast.specs.View.{Note, note, view, view_step, with_suffixes, with_links}
 use Rattle.php_ast.specs.declared.statement.Stmt.{Stmt}
 use Rattle.php_ast.specs.declared.statement.Stmt.TheVariants.{Block, rolls-Block}
 use Rattle.php_ast.specs.declared.statement.Stmt.TheOpen.{Stmt-F}
 use Rattle.php_ast.specs.declared.statement.Stmt.TheFolds.{fold-roll-Stmt}
 use Rattle.php_ast.specs.Statements.{Statement, block}
 use Rattle.php_ast.specs.StatementView.{list_view, statement_view, statement_step}
-use Rattle.php_ast.specs.PrintParts.{named_with, suffix_with, class_with, argument_with, link_with}
+use Rattle.php_ast.specs.PrintParts.{named_with, suffix_with, argument_with, link_with}
 
 map_same : {A B : Type 0} (f g : A → B) → ((x : A) → f x ≡ g x) → (xs : List A) → map f xs ≡ map g xs
 map_same f g same [] = refl

@@ -37,6 +37,7 @@ pub mod MemberMachine
 pub mod ScriptMachine
 pub mod DeclarationDepth
 pub mod DeclarationLaws
+pub mod Begins
 pub mod StatementView
 pub mod Print
 pub mod PrintParts

@@ -1,5 +1,5 @@
 -- A function at each expression in a part of an expression of the program.
-use Rattle.std.specs.Prelude.{List, map}
+use Rattle.std.specs.Prelude.{map}
 use Rattle.php_ast.specs.declared.expression.Expr.{Expr}
 use Rattle.php_ast.specs.declared.expression.Piece.{Piece}
 use Rattle.php_ast.specs.declared.expression.Piece.TheVariants as piece

@@ -1,14 +1,13 @@
-use Rattle.std.proofs.Common.{◌≡◌, List, ◌∷◌, ◌++◌, map, length, ◌≤◌, sym, ◌∙◌, ap, arith, refl}
+use Rattle.std.proofs.Common.{◌∷◌, ◌++◌, map, length, ◌≤◌, sym, ◌∙◌, ap, arith, refl}
 use Rattle.php_lex.specs.declared.kind.Keyword.TheVariants as word
 use Rattle.php_lex.specs.declared.kind.Punct.TheVariants as mark
 use Rattle.php_ast.specs.Symbol as symbol
 use Rattle.php_ast.specs.View.{view}
-use Rattle.php_ast.specs.Print.{sign_symbols}
 use Rattle.php_ast.specs.Statements.{no_statement, no_elseif, no_elseif_list, no_case, no_catch}
 use Rattle.php_ast.specs.StatementSpelling.{spell_head, cases_opening, cases_closing, spell_statement, spell_statements, spell_elseifs, spell_elseif_lists, spell_cases, spell_catches}
 use Rattle.php_ast.specs.StatementView.{optional, list_view, elseifs_from, elseif_lists_from, cases_from, catches_from, statement_view}
-use Rattle.php_ast.specs.PrintStatements.{elseif_with, elseif_list_with, body_with, case_with, catch_with, spell_braces, spell_elseif, spell_elseif_list, spell_case, spell_catch, spell_else, spell_else_list, spell_finally}
-use Rattle.php_ast.proofs.PrintLists.{behind, step_all, end_all, statements_spelled, elseifs_spelled, elseif_lists_spelled, cases_spelled, catches_spelled, if_spelled, if_lists_spelled, try_spelled}
+use Rattle.php_ast.specs.PrintStatements.{elseif_with, elseif_list_with, case_with, catch_with, spell_braces, spell_elseif, spell_elseif_list, spell_case, spell_catch, spell_else, spell_else_list, spell_finally}
+use Rattle.php_ast.proofs.PrintLists.{behind, step_all, end_all, statements_spelled, elseifs_spelled, elseif_lists_spelled, cases_spelled, catches_spelled}
 use Rattle.php_ast.proofs.PrintWeights.{heavier}
 use Rattle.php_ast.proofs.PrintStatementWeights.{same, elseif_weight, elseif_list_weight, case_weight, catch_weight, statement_weight}
 use Rattle.php_ast.proofs.PrintViews.{view_block}

@@ -1,5 +1,4 @@
-use Rattle.std.proofs.Common.{List, ◌++◌, map, length, ◌≤◌, sym, ap, arith}
-use Rattle.php_lex.specs.declared.kind.Punct.TheVariants as mark
+use Rattle.std.proofs.Common.{◌++◌, map, length, ◌≤◌, sym, ap, arith}
 use Rattle.php_ast.specs.Symbol as symbol
 use Rattle.php_ast.specs.Statements.{empty}
 use Rattle.php_ast.specs.StatementSpelling.{spell_name}

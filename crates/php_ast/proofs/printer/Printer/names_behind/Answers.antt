@@ -1,8 +1,6 @@
-use Rattle.std.proofs.Common.{◌++◌, ◌∷◌, sym, ◌∙◌, ap}
+use Rattle.std.proofs.Common.{◌++◌, sym, ◌∙◌, ap}
 use Rattle.std.proofs.lemmas.Result.{on_ok_weaker}
-use Rattle.php_ast.specs.Symbol as symbol
 use Rattle.php_ast.specs.Print.{Prints}
-use Rattle.php_lex.specs.declared.kind.Punct.TheVariants as mark
 use Rattle.php_ast.specs.StatementView.{names_view}
 use Rattle.php_ast.specs.StatementSpelling.{commas, spell_name}
 use Rattle.php_ast.specs.DeclarationSpelling.{spell_names}

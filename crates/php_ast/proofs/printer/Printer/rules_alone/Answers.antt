@@ -1,4 +1,4 @@
-use Rattle.std.proofs.Common.{List, ◌++◌, map, length, ◌≤◌, sym, ap, arith}
+use Rattle.std.proofs.Common.{◌++◌, map, length, ◌≤◌, sym, ap, arith}
 use Rattle.php_ast.specs.Statements.{empty}
 use Rattle.php_ast.specs.DeclarationSpelling.{spell_rule}
 use Rattle.php_ast.specs.StatementView.{rule_view}
