@@ -13,8 +13,6 @@ mod print_member;
 mod print_signs;
 mod print_simple;
 mod print_statement;
-#[cfg(test)]
-mod print_tests;
 mod print_text;
 mod print_words;
 mod printed;
