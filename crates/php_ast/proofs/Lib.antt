@@ -1,19 +1,19 @@
 mod Examples
 mod FormExamples
 mod WordExamples
-mod Signs
+pub mod Signs
 mod Sound
-mod Fill
-mod Settle
+pub mod Fill
+pub mod Settle
 mod SoundSteps
 mod SoundLists
 mod Soundness
-mod Trees
-mod Steps
+pub mod Trees
+pub mod Steps
 mod ReadBack
-mod Appended
-mod Notes
-mod LawProofs
+pub mod Appended
+pub mod Notes
+pub mod LawProofs
 mod RulesAgree
 mod StatementExamples
 mod StatementReadings

@@ -1,0 +1,42 @@
+-- Failures further on.
+use Rattle.std.proofs.Common.{◌≡◌, ◌≤◌, ◌⊎◌, inl, inr, ℕ, ◌+◌, ◌-◌, Bool, List, ◌∷◌, arith, Result, Ok, Err}
+use Rattle.php_lex.specs.Token.{Token}
+use Rattle.php_ast.specs.Symbol.{Symbol}
+use Rattle.php_ast.specs.Machine.{OpenForm, OpenForms, State, expects, least_power_at}
+use Rattle.php_ast.specs.Depth.{deepened}
+use Rattle.php_parse_body.specs.declared.fail.Stop.{Stop}
+use Rattle.php_parse_body.specs.declared.fail.Stop.TheVariants.{Syntax, TooDeep, NoMemory}
+use Rattle.php_parse_body.specs.Walk.{Leads, Halts}
+use Rattle.php_parse_body.specs.Answer.{Fails}
+use Rattle.php_parse_body.proofs.Moves.{leads_halts, inside_halts, weaken_halts}
+
+-- behind what was read
+pub later : {room level : ℕ} {from : OpenForms → State} {x w : List Symbol} (tokens : List Token) (at behind : ℕ) (mid : OpenForms → State) (e : Stop) → at ≤ behind
+    → Leads room level from x mid w → Fails room level mid w tokens behind e → Fails room level from x tokens at e
+later tokens at behind mid (Syntax k) ahead a r = record { halts = leads_halts mid a r.halts; ahead = omega (arith, r.ahead); within = r.within }
+later tokens at behind mid (TooDeep k) ahead a r = record { halts = leads_halts mid a r.halts; ahead = omega (arith, r.ahead); within = r.within }
+later tokens at behind mid NoMemory ahead a r = tt
+
+-- inside an open form
+pub within : {room level : ℕ} {from : OpenForms → State} {x w : List Symbol} (tokens : List Token) (at behind inner least : ℕ) (f : OpenForm) (e : Stop) → at ≤ behind
+    → (least_power_at f ≡ 0) ⊎ (level ≤ 50) → least_power_at f ≤ least → ((d : ℕ) → deepened f d + inner ≡ d + room)
+    → Leads room level from x (λ s. expects (f ∷ s)) w → Fails inner least (λ s. expects s) w tokens behind e → Fails room level from x tokens at e
+within {room} {level} tokens at behind inner least f (Syntax k) ahead seat low deeper a r =
+    record { halts = leads_halts (λ s. expects (f ∷ s)) a (inside_halts inner least f seat low deeper r.halts); ahead = omega (arith, r.ahead); within = r.within }
+within {room} {level} tokens at behind inner least f (TooDeep k) ahead seat low deeper a r =
+    record { halts = leads_halts (λ s. expects (f ∷ s)) a (inside_halts inner least f seat low deeper r.halts); ahead = omega (arith, r.ahead); within = r.within }
+within tokens at behind inner least f NoMemory ahead seat low deeper a r = tt
+
+-- one expression between two tokens
+pub between : {room level : ℕ} {from : OpenForms → State} {x w : List Symbol} (tokens : List Token) (at behind : ℕ) (f : OpenForm) (e : Stop) → at ≤ behind → 1 ≤ room
+    → least_power_at f ≡ 0 → ((d : ℕ) → deepened f d ≡ 1 + d)
+    → Leads room level from x (λ s. expects (f ∷ s)) w → Fails (room - 1) 1 (λ s. expects s) w tokens behind e → Fails room level from x tokens at e
+between {room} tokens at behind f e ahead deep own deeper a r =
+    within tokens at behind (room - 1) 1 f e ahead (inl own) (omega arith) (λ d. omega (arith, deeper d)) a r
+
+-- fewer open forms
+pub fewer : (room level higher : ℕ) (from : OpenForms → State) (x : List Symbol) (tokens : List Token) (at : ℕ) (e : Stop) → level ≤ higher
+    → Fails room higher from x tokens at e → Fails room level from x tokens at e
+fewer room level higher from x tokens at (Syntax k) h r = record { halts = weaken_halts h r.halts; ahead = r.ahead; within = r.within }
+fewer room level higher from x tokens at (TooDeep k) h r = record { halts = weaken_halts h r.halts; ahead = r.ahead; within = r.within }
+fewer room level higher from x tokens at NoMemory h r = tt

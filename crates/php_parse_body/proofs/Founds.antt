@@ -1,0 +1,95 @@
+-- Answers behind what was read before.
+use Rattle.std.proofs.Common.{◌≡◌, ◌≢◌, ◌≤◌, ◌<◌, ◌⊎◌, inl, inr, ℕ, suc, ◌+◌, Bool, true, false, Option, Some, None, Result, Ok, Err, List, [], ◌∷◌, refl, sym, ◌∙◌, ap, subst, arith}
+use Rattle.php_lex.specs.Token.{Token}
+use Rattle.php_ast.specs.Symbol.{Symbol}
+use Rattle.std.proofs.lemmas.Bool.{lt-ltb}
+use Rattle.php_ast.specs.declared.operator.ArrayForm.TheVariants as array_form
+use Rattle.php_ast.specs.Depth.{depth_at}
+use Rattle.php_ast.specs.Tree.{colons, parentheses, emptiness, exiting, array, isset}
+use Rattle.php_ast.specs.Sign.{Continuation, draws, closes, neither, continuation, selects, Beginning, is_leaf, is_static, is_quote, is_exit, is_new, is_yield, encloses, lists, prefixes, begins_nothing, beginning}
+use Rattle.php_ast.specs.Machine.{Form, OpenForms, State, expects, holds, past_static, instance_open, least_power, operand_level, prefix_open, past_yield, allowed_if, advance, start, static_step, started}
+use Rattle.php_ast.specs.Laws.{head_continuation}
+use Rattle.php_parse_body.specs.declared.fail.Stop.{Stop}
+use Rattle.php_parse_body.specs.declared.reader.Read.{Read}
+use Rattle.php_parse_body.specs.Walk.{Leads, Halts, walk, short, deep}
+use Rattle.php_parse_body.specs.Seen.{rest, head_beginning}
+use Rattle.php_parse_body.specs.Answer.{Answers, Fails}
+use Rattle.php_parse_body.proofs.Moves.{leads, leads_halts, move, sticks, sinks}
+use Rattle.php_parse_body.proofs.Fails.{later}
+
+pub behind : {room level : ℕ} {from : OpenForms → State} {x w : List Symbol} (least : ℕ) (tokens : List Token) (start at place : ℕ) (mid : OpenForms → State) (r : Result Read Stop) → at ≤ place
+    → Leads room level from x mid w → Answers room level least mid w tokens start place r → Answers room level least from x tokens start at r
+behind least tokens start at place mid (Ok r) ahead a found = record {
+  form = found.form;
+  spans = found.spans;
+  reads = leads mid a found.reads;
+  edge_is = found.edge_is;
+  rests = found.rests;
+  bare = found.bare;
+  ahead = omega (arith, found.ahead);
+  within = found.within;
+  deep = found.deep;
+}
+behind least tokens start at place mid (Err e) ahead a fails = later tokens at place mid e ahead a fails
+
+abbrev pub IsSome : {A : Type 0} → Option A → Type 0
+IsSome None = ⊥
+IsSome (Some x) = Unit {0}
+
+-- ---- `static` with no `::` behind it
+
+static_by : (n : ℕ) (s : OpenForms) (x : Continuation) → least_power s ≤ 50 → x ≢ draws (selects colons) → static_step s x ≡ None
+static_by n [] (draws (selects colons)) low h = absurd (h refl)
+static_by n [] _ low h = refl
+static_by n (instance_open l ∷ s) x low h = absurd (omega arith)
+static_by n (_ ∷ s) (draws (selects colons)) low h = absurd (h refl)
+static_by n (_ ∷ s) _ low h = refl
+
+static_short : (n : ℕ) (s : OpenForms) (v : List Symbol) → least_power s ≤ 50 → head_continuation v ≢ draws (selects colons) → walk n (past_static s) v ≡ short v
+static_short n [] [] low h = refl
+static_short n (instance_open l ∷ s) v low h = absurd (omega arith)
+static_short n (_ ∷ s) [] low h = refl
+static_short n [] (t ∷ w) low h = sticks n (past_static []) t w (static_by n [] (continuation t) low h)
+static_short n (f ∷ s) (t ∷ w) low h = sticks n (past_static (f ∷ s)) t w (static_by n (f ∷ s) (continuation t) low h)
+
+pub static_alone : {room : ℕ} {x w : List Symbol} (t : Symbol) → x ≡ t ∷ w → beginning t ≡ is_static → head_continuation w ≢ draws (selects colons) → 1 ≤ room
+    → Halts false room 50 (λ s. expects s) x w
+static_alone {room} {x} {w} t is begins alone some =
+    leads_halts (λ s. past_static s) (move t is (λ s near. ap (λ b. started b s) begins) (λ n s near at. omega arith))
+    (record { same = λ n s whole near at. static_short n s w (omega arith) alone })
+
+-- ---- nothing begins here
+
+nothing_in : (n : ℕ) (s : OpenForms) (v : List Symbol) → head_beginning v ≡ begins_nothing → walk n (expects s) v ≡ short v
+nothing_in n s [] h = refl
+nothing_in n s (t ∷ w) h = sticks n (expects s) t w (ap (λ b. started b s) h)
+
+pub nothing : {room level : ℕ} {v : List Symbol} → head_beginning v ≡ begins_nothing → Halts false room level (λ s. expects s) v v
+nothing {room} {level} {v} h = record { same = λ n s whole near at. nothing_in n s v h }
+
+-- where no level is left, what begins an expression is nested too deep
+deep_by : (b : Beginning) (s : OpenForms) → least_power s ≤ 50 → b ≢ begins_nothing → IsSome (started b s)
+deep_by (is_leaf l) s low h = tt
+deep_by is_static s low h = tt
+deep_by is_quote s low h = tt
+deep_by is_exit s low h = tt
+deep_by is_new s low h = tt
+deep_by is_yield s low h = subst (λ b. IsSome (allowed_if b (past_yield s))) (sym (lt-ltb (least_power s) operand_level (omega arith))) tt
+deep_by (encloses parentheses) s low h = tt
+deep_by (encloses emptiness) s low h = tt
+deep_by (encloses exiting) s low h = tt
+deep_by (lists (array array_form.Brackets)) s low h = tt
+deep_by (lists (array array_form.Array)) s low h = tt
+deep_by (lists (array array_form.List)) s low h = tt
+deep_by (lists isset) s low h = tt
+deep_by (prefixes op) s low h = subst (λ b. IsSome (allowed_if b (expects (prefix_open op ∷ s)))) (sym (lt-ltb (least_power s) operand_level (omega arith))) tt
+deep_by begins_nothing s low h = absurd (h refl)
+
+sinks_some : (n : ℕ) (m : State) (t : Symbol) (w : List Symbol) (o : Option State) → advance m t ≡ o → IsSome o → n < depth_at m t → walk n m (t ∷ w) ≡ deep (t ∷ w)
+sinks_some n m t w (Some to) is some under = sinks n m to t w is under
+sinks_some n m t w None is some under = absurd some
+
+pub sinks_here : {level : ℕ} {x w : List Symbol} (t : Symbol) → level ≤ 50 → x ≡ t ∷ w → beginning t ≢ begins_nothing → Halts true 0 level (λ s. expects s) x x
+sinks_here {level} {x} {w} t low is some = record {
+  same = λ n s whole near at. ap (walk n (expects s)) is ∙ sinks_some n (expects s) t w (start s t) refl (deep_by (beginning t) s (omega arith) some) (omega arith) ∙ ap deep (sym is);
+}

@@ -1,0 +1,319 @@
+-- Operators, and what stands before them.
+use Rattle.std.proofs.Common.{◌≡◌, ◌≢◌, ◌≤◌, ◌<◌, ◌⊎◌, inl, inr, ℕ, suc, ◌+◌, ◌-◌, min, Bool, true, false, Option, Some, None, List, [], ◌∷◌, refl, sym, ◌∙◌, ap, subst, arith, ltb-true, ltb-false}
+use Rattle.std.specs.Prelude.{nat_lt}
+use Rattle.std.proofs.lemmas.Bool.{lt-ltb}
+use Rattle.php_ast.specs.declared.operator.Assign.{Assign}
+use Rattle.php_ast.specs.declared.operator.Assign.TheVariants as setting
+use Rattle.php_ast.specs.declared.operator.Binary.{Binary}
+use Rattle.php_ast.specs.declared.operator.Binary.TheVariants as binary_op
+use Rattle.php_ast.specs.declared.operator.Prefix.{Prefix}
+use Rattle.php_ast.specs.declared.operator.Prefix.TheVariants as prefix_op
+use Rattle.php_ast.specs.declared.operator.Count.{Count}
+use Rattle.php_ast.specs.Symbol.{Symbol}
+use Rattle.php_lex.specs.Token.{Token}
+use Rattle.php_ast.specs.Tree.{Tree, Setting}
+use Rattle.php_ast.specs.View.{Note}
+use Rattle.php_ast.specs.Placed.{size, setting_size, noted, notes_of}
+use Rattle.php_parse_body.specs.declared.fail.Stop.{Stop}
+use Rattle.php_parse_body.specs.declared.fail.Stop.TheVariants.{Syntax, TooDeep, NoMemory}
+use Rattle.std.proofs.Common.{Result}
+use Rattle.php_parse_body.specs.declared.reader.Read.{Read}
+use Rattle.php_parse_body.specs.Answer.{Spans, Fails, AnswersHere, AnswersRight}
+use Rattle.php_ast.specs.Nesting.{right_depth}
+use Rattle.php_ast.specs.Power.{Grouping, to_left, to_right, ungrouped, binary_row, choice_row, assign_row, prefix_power}
+use Rattle.php_ast.specs.Proper.{ends, edge, right, is_call}
+use Rattle.php_ast.specs.Tree.{prefix, counted, binary, instance, static_instance, choice, short_choice, assign, by_value, by_reference, yield_nothing, yield_value, yield_pair, colons}
+use Rattle.php_ast.specs.Sign as sign
+use Rattle.php_ast.specs.Sign.{Beginning, begins_nothing, is_static, is_yield, prefixes, beginning, Draw, joins, checks, chooses, sets, counts, draw_strength, Continuation, closes, draws, neither, continuation, strength_of, is_arrow, ends_yield, selects, is_ampersand, is_colon}
+use Rattle.php_ast.specs.Machine.{Form, OpenForm, prefix_open, binary_open, assign_open, else_open, short_open, then_open, instance_open, yield_open, yield_value_open, OpenForms, State, expects, holds, past_assign, past_question, past_yield, past_static, operand_level, least_power_at, least_power, ends_at, completed, pick, allowed_if, started, start, assigning, opened_by, after, after_by, closed, goes_on}
+use Rattle.php_ast.specs.Depth.{deepened, depth, depth_behind}
+use Rattle.php_ast.specs.Laws.{head_continuation}
+use Rattle.php_ast.proofs.Fill.{prefix_bound, binary_bound}
+use Rattle.php_parse_body.specs.Walk.{Leads, Halts, Rests, head_strength, walk, short}
+use Rattle.php_parse_body.specs.Seen.{test, head_beginning, NoOperand}
+use Rattle.php_parse_body.proofs.Moves.{leads, leads_halts, move, sticks, inside, inside_halts, finish, finish_instance, completed_ends, draw, settle, weaken, weaken_halts, call_halts, close, unclosed_halts}
+use Rattle.php_parse_body.proofs.Enters.{assign_enters, question_enters, yield_enters, yield_alone, static_ends}
+
+-- ---- an operator form
+
+pub operator_reads : {room level : ℕ} {from : OpenForms → State} {x w v : List Symbol} (f : OpenForm) (e : Form) (inner least : ℕ) → level ≤ 50 → 0 < least_power_at f → least_power_at f ≤ 50 → least ≡ least_power_at f
+    → (is_arrow (head_continuation v) ≡ true → ends_at true f ≡ least_power_at f) → ((d : ℕ) → deepened f d + inner ≡ d + room)
+    → Leads room level from x (λ s. expects (f ∷ s)) w → Leads inner least (λ s. expects s) w (λ s. holds e s) v → Rests least (ends e) v
+    → Leads room level from x (λ s. holds (completed f e) s) v
+operator_reads {room} {level} {from} {x} {w} {v} f e inner least low some most is arrow deeper opens r rests =
+    leads (λ s. expects (f ∷ s)) opens
+    (leads (λ s. holds e (f ∷ s)) (inside inner least f (inr low) (omega (arith, is)) deeper r)
+    (finish f e v low some most arrow (subst (λ n. Rests n (ends e) v) is rests)))
+
+pub operator_rests : (f : OpenForm) (e : Form) (least : ℕ) (v : List Symbol) → 0 < least_power_at f → least_power_at f ≤ 50 → least ≡ least_power_at f → Rests least (ends e) v → Rests 50 (ends (completed f e)) v
+operator_rests f e least v some most is (inl h) = inl (omega arith)
+operator_rests f e least v some most is (inr h) = inr (omega (arith, completed_ends f e some most))
+
+pub no_arrow : (f : OpenForm) (x : Continuation) → ends_at true f ≡ least_power_at f → is_arrow x ≡ true → ends_at true f ≡ least_power_at f
+no_arrow f x h g = h
+
+pub rests_same : (n : ℕ) (v : List Symbol) → Rests n n v
+rests_same n v = rests_by (nat_lt (head_strength v) n) n (head_strength v) refl
+  where
+    rests_by : (b : Bool) (n k : ℕ) → nat_lt k n ≡ b → (k < n) ⊎ (n ≤ k)
+    rests_by true n k h = inl (ltb-true k n h)
+    rests_by false n k h = inr (ltb-false k n h)
+
+-- ---- prefix operators
+
+pub prefix_opens : {room : ℕ} {x w : List Symbol} (t : Symbol) (op : Prefix) → x ≡ t ∷ w → beginning t ≡ prefixes op → 1 ≤ room
+    → Leads room 50 (λ s. expects s) x (λ s. expects (prefix_open op ∷ s)) w
+prefix_opens t op is begins deep =
+    move t is (λ s near. ap (λ b. started b s) begins ∙ ap (λ b. allowed_if b (expects (prefix_open op ∷ s))) (lt-ltb (least_power s) operand_level (omega arith))) (λ n s near at. omega arith)
+
+-- ---- assignments
+
+pub value_opens : {room : ℕ} {x w : List Symbol} (t : Symbol) (op : Assign) (f : Form) → x ≡ t ∷ w → continuation t ≡ draws (sets op) → 50 < ends f → (op ≡ setting.Plain → test is_ampersand w ≡ false) → 1 ≤ room
+    → Leads room 50 (λ s. holds f s) x (λ s. expects (assign_open (by_value op) f ∷ s)) w
+value_opens t setting.Plain f is drawing low no_reference deep =
+    leads (λ s. past_assign f s) (draw t (sets setting.Plain) f is drawing (omega arith) low deep) (assign_enters f (no_reference refl))
+value_opens t setting.Power f is drawing low no_reference deep = draw t (sets setting.Power) f is drawing (omega arith) low deep
+value_opens t setting.Times f is drawing low no_reference deep = draw t (sets setting.Times) f is drawing (omega arith) low deep
+value_opens t setting.Divided f is drawing low no_reference deep = draw t (sets setting.Divided) f is drawing (omega arith) low deep
+value_opens t setting.Remainder f is drawing low no_reference deep = draw t (sets setting.Remainder) f is drawing (omega arith) low deep
+value_opens t setting.Plus f is drawing low no_reference deep = draw t (sets setting.Plus) f is drawing (omega arith) low deep
+value_opens t setting.Minus f is drawing low no_reference deep = draw t (sets setting.Minus) f is drawing (omega arith) low deep
+value_opens t setting.Concatenated f is drawing low no_reference deep = draw t (sets setting.Concatenated) f is drawing (omega arith) low deep
+value_opens t setting.ShiftedLeft f is drawing low no_reference deep = draw t (sets setting.ShiftedLeft) f is drawing (omega arith) low deep
+value_opens t setting.ShiftedRight f is drawing low no_reference deep = draw t (sets setting.ShiftedRight) f is drawing (omega arith) low deep
+value_opens t setting.BitAnd f is drawing low no_reference deep = draw t (sets setting.BitAnd) f is drawing (omega arith) low deep
+value_opens t setting.BitXor f is drawing low no_reference deep = draw t (sets setting.BitXor) f is drawing (omega arith) low deep
+value_opens t setting.BitOr f is drawing low no_reference deep = draw t (sets setting.BitOr) f is drawing (omega arith) low deep
+
+pub reference_opens : {room : ℕ} {x y w : List Symbol} (t u : Symbol) (f : Form) → x ≡ t ∷ y → continuation t ≡ draws (sets setting.Plain) → 50 < ends f → y ≡ u ∷ w → is_ampersand u ≡ true → 1 ≤ room
+    → Leads room 50 (λ s. holds f s) x (λ s. expects (assign_open by_reference f ∷ s)) w
+reference_opens t u f is drawing low more refers deep =
+    leads (λ s. past_assign f s) (draw t (sets setting.Plain) f is drawing (omega arith) low deep)
+    (move u more (λ s near. ap (λ b. pick b (Some (expects (assign_open by_reference f ∷ s))) (start (assign_open (by_value setting.Plain) f ∷ s) u)) refers)
+    (λ n s near at. omega (arith, ap (λ b. pick b (depth s) (1 + depth s)) refers)))
+
+-- ---- `yield`
+
+yield_begins : {room : ℕ} {x w : List Symbol} (t : Symbol) → x ≡ t ∷ w → beginning t ≡ is_yield → 1 ≤ room → Leads room 50 (λ s. expects s) x (λ s. past_yield s) w
+yield_begins t is begins deep =
+    move t is (λ s near. ap (λ b. started b s) begins ∙ ap (λ b. allowed_if b (past_yield s)) (lt-ltb (least_power s) operand_level (omega arith))) (λ n s near at. omega arith)
+
+pub yield_nothing_reads : {room : ℕ} {x w : List Symbol} (t : Symbol) → x ≡ t ∷ w → beginning t ≡ is_yield → ends_yield (head_continuation w) ≡ true → 1 ≤ room
+    → Leads room 50 (λ s. expects s) x (λ s. holds (yield_nothing tt) s) w
+yield_nothing_reads t is begins alone deep = leads (λ s. past_yield s) (yield_begins t is begins deep) (yield_alone alone)
+
+pub yield_opens : {room : ℕ} {x w : List Symbol} (t : Symbol) → x ≡ t ∷ w → beginning t ≡ is_yield → ends_yield (head_continuation w) ≡ false → 1 ≤ room
+    → Leads room 50 (λ s. expects s) x (λ s. expects (yield_open ∷ s)) w
+yield_opens t is begins more deep = leads (λ s. past_yield s) (yield_begins t is begins deep) (yield_enters more)
+
+pub yield_ends_low : (x : Continuation) → ends_yield x ≡ true → strength_of x < 50
+yield_ends_low (closes c) h = omega arith
+yield_ends_low (draws d) h = cc
+yield_ends_low neither h = cc
+
+pub arrow_is : (x : Continuation) → is_arrow x ≡ true → x ≡ closes sign.double_arrow
+arrow_is (closes sign.double_arrow) h = refl
+arrow_is (closes sign.paren) h = cc
+arrow_is (closes sign.bracket) h = cc
+arrow_is (closes sign.brace) h = cc
+arrow_is (closes sign.comma) h = cc
+arrow_is (closes sign.colon) h = cc
+arrow_is (closes sign.semicolon) h = cc
+arrow_is (closes sign.part_end) h = cc
+arrow_is (draws d) h = cc
+arrow_is neither h = cc
+
+pub pair_opens : {room : ℕ} {x w : List Symbol} (t : Symbol) (k : Form) → x ≡ t ∷ w → continuation t ≡ closes sign.double_arrow → 2 ≤ room
+    → Leads room 50 (λ s. holds k (yield_open ∷ s)) x (λ s. expects (yield_value_open k ∷ s)) w
+pair_opens t k is arrow deep =
+    move t is (λ s near. ap (goes_on k (yield_open ∷ s)) arrow) (λ n s near at. omega (arith, ap (depth_behind (yield_open ∷ s)) arrow))
+
+-- ---- operators between two operands
+
+pub right_bounds : (op : Binary) → (0 < right (binary_row op)) × (right (binary_row op) ≤ 50) × (right_depth (binary_row op).grouping ≤ 1)
+right_bounds binary_op.Power = (omega arith, omega arith, omega arith)
+right_bounds binary_op.Coalesced = (omega arith, omega arith, omega arith)
+right_bounds binary_op.Times = (omega arith, omega arith, omega arith)
+right_bounds _ = (omega arith, omega arith, omega arith)
+
+pub right_answers : (op : Binary) (room inner level : ℕ) (tokens : List Token) (at : ℕ) (r : Result Read Stop) → level ≡ right (binary_row op) → inner ≡ room - right_depth (binary_row op).grouping
+    → AnswersHere inner level level tokens at r → AnswersRight op room tokens at r
+right_answers op room inner level tokens at r level_is inner_is h =
+    subst (λ k. AnswersHere (room - right_depth (binary_row op).grouping) k k tokens at r) level_is (subst (λ k. AnswersHere k level level tokens at r) inner_is h)
+
+pub binary_opens : {room level : ℕ} {x w : List Symbol} (t : Symbol) (op : Binary) (f : Form) → x ≡ t ∷ w → continuation t ≡ draws (joins op) → level ≤ (binary_row op).power → (binary_row op).power < ends f → 1 ≤ room
+    → Leads room level (λ s. holds f s) x (λ s. expects (binary_open op f ∷ s)) w
+binary_opens t op f is drawing near low deep = draw t (joins op) f is drawing near low deep
+
+-- ---- `? :`
+
+pub short_opens : {room level : ℕ} {x y w : List Symbol} (t u : Symbol) (f : Form) → x ≡ t ∷ y → continuation t ≡ draws chooses → level ≤ 10 → 10 < ends f → y ≡ u ∷ w → is_colon u ≡ true → 1 ≤ room
+    → Leads room level (λ s. holds f s) x (λ s. expects (short_open f ∷ s)) w
+short_opens t u f is drawing near low more colon deep =
+    leads (λ s. past_question f s) (draw t chooses f is drawing near low deep)
+    (move u more (λ s g. ap (λ b. pick b (Some (expects (short_open f ∷ s))) (start (then_open f ∷ s) u)) colon) (λ n s g at. omega (arith, ap (λ b. pick b (depth s) (1 + depth s)) colon)))
+
+pub then_opens : {room level : ℕ} {x w : List Symbol} (t : Symbol) (f : Form) → x ≡ t ∷ w → continuation t ≡ draws chooses → level ≤ 10 → 10 < ends f → test is_colon w ≡ false → 1 ≤ room
+    → Leads room level (λ s. holds f s) x (λ s. expects (then_open f ∷ s)) w
+then_opens t f is drawing near low filled deep = leads (λ s. past_question f s) (draw t chooses f is drawing near low deep) (question_enters f filled)
+
+shut_then : (c : Form) (k : sign.Closer) (e : Form) (s : OpenForms) → k ≢ sign.colon → closed k e (then_open c) s ≡ None
+shut_then c sign.colon e s h = absurd (h refl)
+shut_then c _ e s h = refl
+
+pub then_unclosed : {room level : ℕ} {from : OpenForms → State} {x w y : List Symbol} (f e : Form) → level ≤ 50 → Leads room level from x (λ s. expects (then_open f ∷ s)) w
+    → Leads (room - 1) 1 (λ s. expects s) w (λ s. holds e s) y → 1 ≤ room → Rests 1 (ends e) y → head_continuation y ≢ closes sign.colon
+    → Halts false room level from x y
+then_unclosed {room} {level} {from} {x} {w} {y} f e low opens r deep rests shut =
+    leads_halts (λ s. expects (then_open f ∷ s)) opens
+    (leads_halts (λ s. holds e (then_open f ∷ s)) (inside (room - 1) 1 (then_open f) (inl refl) (omega arith) (λ d. omega arith) r)
+    (unclosed_halts e (then_open f) y refl rests (λ k s h. shut_then f k e s (λ p. shut (h ∙ ap closes p)))))
+
+pub else_begins : {room level : ℕ} {y v : List Symbol} (f e : Form) (u : Symbol) → y ≡ u ∷ v → continuation u ≡ closes sign.colon → 2 ≤ room
+    → Leads room level (λ s. holds e (then_open f ∷ s)) y (λ s. expects (else_open f e ∷ s)) v
+else_begins f e u more colon deep =
+    close u sign.colon e (then_open f) (λ s. expects (else_open f e ∷ s)) more colon refl (λ s. refl) (λ d. omega arith) deep
+
+-- ---- `instanceof`
+
+pub instance_opens : {room level : ℕ} {x w : List Symbol} (t : Symbol) (f : Form) → x ≡ t ∷ w → continuation t ≡ draws checks → level ≤ 36 → 36 < ends f → 1 ≤ room
+    → Leads room level (λ s. holds f s) x (λ s. expects (instance_open f ∷ s)) w
+instance_opens t f is drawing near low deep = draw t checks f is drawing near low deep
+
+operand_in : {room level : ℕ} {w v : List Symbol} (f e : Form) → level ≤ 36 → Leads room 200 (λ s. expects s) w (λ s. after e s) v
+    → Leads room level (λ s. expects (instance_open f ∷ s)) w (λ s. after e (instance_open f ∷ s)) v
+operand_in f e near r = record { same = λ n s whole g is. r.same n (instance_open f ∷ s) (inr (omega arith), whole) (omega arith) (omega arith) }
+
+strength_most : (x : Continuation) → strength_of x ≤ 110
+strength_most (draws (joins op)) = omega (arith, binary_bound op)
+strength_most (draws _) = omega arith
+strength_most _ = omega arith
+
+call_low : (n : ℕ) (x : Continuation) → (strength_of x < 90) ⊎ (n ≤ strength_of x) → n ≡ 200 → strength_of x < 91
+call_low n x (inl h) is = omega arith
+call_low n x (inr h) is = absurd (omega (arith, strength_most x))
+
+pub instance_reads : {room level : ℕ} {x w v : List Symbol} (f e : Form) → level ≤ 36 → Leads room level (λ s. holds f s) x (λ s. expects (instance_open f ∷ s)) w
+    → Leads room 200 (λ s. expects s) w (λ s. after e s) v → is_call e ≡ false → Rests 90 (ends e) v
+    → Leads room level (λ s. holds f s) x (λ s. holds (instance f e) s) v
+instance_reads {room} {level} {x} {w} {v} f e near opens r no_call rests =
+    leads (λ s. expects (instance_open f ∷ s)) opens
+    (leads (λ s. after e (instance_open f ∷ s)) (operand_in f e near r)
+    (leads (λ s. holds e (instance_open f ∷ s)) (record { same = λ n s whole g is. ap (λ b. walk n (after_by b e (instance_open f ∷ s)) v) no_call })
+    (finish_instance f e v (omega arith) rests)))
+
+pub instance_halts : {room level : ℕ} {x w v : List Symbol} (f e : Form) → level ≤ 36 → Leads room level (λ s. holds f s) x (λ s. expects (instance_open f ∷ s)) w
+    → Leads room 200 (λ s. expects s) w (λ s. after e s) v → is_call e ≡ true → ends e ≡ 200 → Rests 90 (ends e) v
+    → Halts false room level (λ s. holds f s) x v
+instance_halts {room} {level} {x} {w} {v} f e near opens r call broad rests =
+    leads_halts (λ s. expects (instance_open f ∷ s)) opens
+    (leads_halts (λ s. after e (instance_open f ∷ s)) (operand_in f e near r)
+    (call_halts f e v call (call_low (ends e) (head_continuation v) rests broad)))
+
+pub static_instance_reads : {room level : ℕ} {x y w : List Symbol} (f : Form) (u : Symbol) → level ≤ 36 → Leads room level (λ s. holds f s) x (λ s. expects (instance_open f ∷ s)) y
+    → y ≡ u ∷ w → beginning u ≡ is_static → head_continuation w ≢ draws (selects colons) → 1 ≤ room
+    → Leads room level (λ s. holds f s) x (λ s. holds (static_instance f tt) s) w
+static_instance_reads {room} {level} {x} {y} {w} f u near opens is begins alone deep =
+    leads (λ s. expects (instance_open f ∷ s)) opens
+    (leads (λ s. past_static (instance_open f ∷ s)) (move u is (λ s g. ap (λ b. started b (instance_open f ∷ s)) begins) (λ n s g at. omega arith))
+    (static_ends f alone))
+
+pub instance_fails : {room level : ℕ} {x w : List Symbol} (tokens : List Token) (at behind : ℕ) (f : Form) (e : Stop) → at ≤ behind → level ≤ 36 → Leads room level (λ s. holds f s) x (λ s. expects (instance_open f ∷ s)) w
+    → Fails room 200 (λ s. expects s) w tokens behind e → Fails room level (λ s. holds f s) x tokens at e
+instance_fails tokens at behind f (Syntax k) ahead near opens r = record {
+  halts = leads_halts (λ s. expects (instance_open f ∷ s)) opens (record { same = λ n s whole g is. r.halts.same n (instance_open f ∷ s) (inr (omega arith), whole) (omega arith) (omega arith) });
+  ahead = omega (arith, r.ahead);
+  within = r.within;
+}
+instance_fails tokens at behind f (TooDeep k) ahead near opens r = record {
+  halts = leads_halts (λ s. expects (instance_open f ∷ s)) opens (record { same = λ n s whole g is. r.halts.same n (instance_open f ∷ s) (inr (omega arith), whole) (omega arith) (omega arith) });
+  ahead = omega (arith, r.ahead);
+  within = r.within;
+}
+instance_fails tokens at behind f NoMemory ahead near opens r = tt
+
+pub instance_rests : (e : Form) (v : List Symbol) → ends e ≡ 36 → Rests 50 (ends e) v
+instance_rests e v is = instance_by (rests_same 50 v)
+  where
+    instance_by : Rests 50 50 v → Rests 50 (ends e) v
+    instance_by (inl h) = inl h
+    instance_by (inr h) = inr (omega arith)
+
+no_operand_by : (b : Beginning) (f : Form) (s : OpenForms) → NoOperand b → started b (instance_open f ∷ s) ≡ None
+no_operand_by is_yield f s h = refl
+no_operand_by (prefixes op) f s h = refl
+no_operand_by begins_nothing f s h = refl
+no_operand_by _ f s h = absurd h
+
+no_operand_in : (n : ℕ) (f : Form) (s : OpenForms) (v : List Symbol) → NoOperand (head_beginning v) → walk n (expects (instance_open f ∷ s)) v ≡ short v
+no_operand_in n f s [] h = refl
+no_operand_in n f s (t ∷ w) h = sticks n (expects (instance_open f ∷ s)) t w (no_operand_by (beginning t) f s h)
+
+pub no_operand : {room level : ℕ} {x y : List Symbol} (f : Form) → Leads room level (λ s. holds f s) x (λ s. expects (instance_open f ∷ s)) y → NoOperand (head_beginning y)
+    → Halts false room level (λ s. holds f s) x y
+no_operand {room} {level} {x} {y} f opens h =
+    leads_halts (λ s. expects (instance_open f ∷ s)) opens (record { same = λ n s whole g is. no_operand_in n f s y h })
+
+-- ---- notes
+
+pub prefix_spans : (tokens : List Token) (made e : Tree Note) (spot : Note) (op : Prefix) (form : Form) (at next : ℕ) → made ≡ prefix spot op e → spot ≡ (notes_of tokens).token at → Spans tokens e form (at + 1) next
+    → Spans tokens made (prefix tt op form) at next
+prefix_spans tokens made e spot op form at next is noted_is spans = record { shown = is ∙ ap (λ n. prefix n op e) noted_is ∙ ap (prefix ((notes_of tokens).token at) op) spans.shown; sized = omega (arith, spans.sized) }
+
+pub assign_spans : (tokens : List Token) (made l r : Tree Note) (how : Setting) (f form : Form) (start place behind next : ℕ) → made ≡ assign how l r → Spans tokens l f start place → Spans tokens r form behind next
+    → behind ≡ place + setting_size how → Spans tokens made (assign how f form) start next
+assign_spans tokens made l r how f form start place behind next is a b where_is = record {
+  shown = is ∙ ap (λ z. assign how z r) a.shown ∙ ap (assign how (noted (notes_of tokens) start f)) (b.shown ∙ ap (λ k. noted (notes_of tokens) k form) (omega (arith, a.sized)));
+  sized = omega (arith, a.sized, b.sized);
+}
+
+pub yield_spans : (tokens : List Token) (made e : Tree Note) (spot : Note) (form : Form) (at next : ℕ) → made ≡ yield_value spot e → spot ≡ (notes_of tokens).token at → Spans tokens e form (at + 1) next
+    → Spans tokens made (yield_value tt form) at next
+yield_spans tokens made e spot form at next is noted_is spans = record { shown = is ∙ ap (λ n. yield_value n e) noted_is ∙ ap (yield_value ((notes_of tokens).token at)) spans.shown; sized = omega (arith, spans.sized) }
+
+pub pair_spans : (tokens : List Token) (made a b : Tree Note) (spot : Note) (k form : Form) (at place next : ℕ) → made ≡ yield_pair spot a b → spot ≡ (notes_of tokens).token at → Spans tokens a k (at + 1) place → Spans tokens b form (place + 1) next
+    → Spans tokens made (yield_pair tt k form) at next
+pair_spans tokens made a b spot k form at place next is noted_is p q = record {
+  shown = is ∙ ap (λ n. yield_pair n a b) noted_is ∙ ap (λ z. yield_pair ((notes_of tokens).token at) z b) p.shown
+      ∙ ap (yield_pair ((notes_of tokens).token at) (noted (notes_of tokens) (at + 1) k)) (q.shown ∙ ap (λ n. noted (notes_of tokens) n form) (omega (arith, p.sized)));
+  sized = omega (arith, p.sized, q.sized);
+}
+
+pub binary_spans : (tokens : List Token) (made l r : Tree Note) (op : Binary) (f form : Form) (start place next : ℕ) → made ≡ binary op l r → Spans tokens l f start place → Spans tokens r form (place + 1) next
+    → Spans tokens made (binary op f form) start next
+binary_spans tokens made l r op f form start place next is a b = record {
+  shown = is ∙ ap (λ z. binary op z r) a.shown ∙ ap (binary op (noted (notes_of tokens) start f)) (b.shown ∙ ap (λ k. noted (notes_of tokens) k form) (omega (arith, a.sized)));
+  sized = omega (arith, a.sized, b.sized);
+}
+
+pub instance_spans : (tokens : List Token) (made l r : Tree Note) (f form : Form) (start place next : ℕ) → made ≡ instance l r → Spans tokens l f start place → Spans tokens r form (place + 1) next
+    → Spans tokens made (instance f form) start next
+instance_spans tokens made l r f form start place next is a b = record {
+  shown = is ∙ ap (λ z. instance z r) a.shown ∙ ap (instance (noted (notes_of tokens) start f)) (b.shown ∙ ap (λ k. noted (notes_of tokens) k form) (omega (arith, a.sized)));
+  sized = omega (arith, a.sized, b.sized);
+}
+
+pub static_instance_spans : (tokens : List Token) (made l : Tree Note) (spot : Note) (f : Form) (start place : ℕ) → made ≡ static_instance l spot → spot ≡ (notes_of tokens).token (place + 1) → Spans tokens l f start place
+    → Spans tokens made (static_instance f tt) start (place + 1 + 1)
+static_instance_spans tokens made l spot f start place is noted_is a = record {
+  shown = is ∙ ap (λ z. static_instance z spot) a.shown ∙ ap (static_instance (noted (notes_of tokens) start f)) (noted_is ∙ ap (λ k. (notes_of tokens).token k) (omega (arith, a.sized)));
+  sized = omega (arith, a.sized);
+}
+
+pub choice_spans : (tokens : List Token) (made c a b : Tree Note) (f x y : Form) (start place middle next : ℕ) → made ≡ choice c a b → Spans tokens c f start place → Spans tokens a x (place + 1) middle → Spans tokens b y (middle + 1) next
+    → Spans tokens made (choice f x y) start next
+choice_spans tokens made c a b f x y start place middle next is p q r = record {
+  shown = is ∙ ap (λ z. choice z a b) p.shown ∙ ap (λ z. choice (noted (notes_of tokens) start f) z b) (q.shown ∙ ap (λ k. noted (notes_of tokens) k x) (omega (arith, p.sized)))
+      ∙ ap (choice (noted (notes_of tokens) start f) (noted (notes_of tokens) (start + size f + 1) x)) (r.shown ∙ ap (λ k. noted (notes_of tokens) k y) (omega (arith, p.sized, q.sized)));
+  sized = omega (arith, p.sized, q.sized, r.sized);
+}
+
+pub short_spans : (tokens : List Token) (made c b : Tree Note) (f y : Form) (start place next : ℕ) → made ≡ short_choice c b → Spans tokens c f start place → Spans tokens b y (place + 1 + 1) next
+    → Spans tokens made (short_choice f y) start next
+short_spans tokens made c b f y start place next is p r = record {
+  shown = is ∙ ap (λ z. short_choice z b) p.shown ∙ ap (short_choice (noted (notes_of tokens) start f)) (r.shown ∙ ap (λ k. noted (notes_of tokens) k y) (omega (arith, p.sized)));
+  sized = omega (arith, p.sized, r.sized);
+}
+
+pub counted_spans : (tokens : List Token) (made l : Tree Note) (count : Count) (f : Form) (start place : ℕ) → made ≡ counted l count → Spans tokens l f start place → Spans tokens made (counted f count) start (place + 1)
+counted_spans tokens made l count f start place is a = record { shown = is ∙ ap (λ z. counted z count) a.shown; sized = omega (arith, a.sized) }

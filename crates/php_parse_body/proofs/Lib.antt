@@ -1,0 +1,16 @@
+pub mod Moves
+pub mod Views
+pub mod Words
+pub mod Productions
+pub mod Enters
+pub mod Fails
+pub mod Trails
+pub mod Joins
+pub mod Founds
+pub mod Listings
+pub mod Makes
+pub mod Heads
+pub mod Walked
+pub mod Wholes
+pub mod Blanks
+pub mod Exactly

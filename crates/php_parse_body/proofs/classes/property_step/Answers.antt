@@ -1,0 +1,24 @@
+use Rattle.std.proofs.Common.{◌≡◌, ◌+◌, ◌-◌, ◌∙◌, refl, arith, inl, inr, ap, sym}
+use Rattle.std.proofs.lemmas.Result.{err_from_is_err_and}
+use Rattle.php_parse_body.proofs.Fails.{later, within, between, fewer}
+use Rattle.php_ast.specs.Tree.{step_property}
+use Rattle.php_parse_body.proofs.Makes.{step_reads, step_halts, step_shown}
+use Rattle.php_parse_body.proofs.classes.property_step.Goals as goal
+
+pub returns-in_default : goal.returns-in_default
+returns-in_default c = λ room deep steps.
+    let o = c.requires.here in
+    record { halts = step_halts o.token steps o.stands.is o.role_is (rw c.in_default.is at c.in_ok-word.ensures) deep; ahead = omega arith; within = omega (arith, o.stands.within) }
+
+pub returns : goal.returns
+returns c = λ room deep.
+    let o = c.requires.here in
+    let m = rw c.in-Some.is at c.in_ok-word.ensures in
+    record {
+      more = λ steps. step_property steps m.0;
+      shown = λ steps start sized. step_shown c.args.tokens.now steps _ m.0 start c.args.at sized m.2;
+      sized = λ steps. omega arith;
+      reads = λ steps. step_reads o.token m.1.token steps m.0 o.stands.is o.role_is m.1.stands.is m.1.role_is deep;
+      ahead = omega arith;
+      within = omega (arith, m.1.stands.within);
+    }

@@ -1,0 +1,27 @@
+use Rattle.std.proofs.Common.{◌≡◌, refl, arith, ap, ◌∙◌}
+use Rattle.php_ast.specs.Tree.{static_member}
+use Rattle.php_ast.specs.Placed.{notes_of}
+use Rattle.php_parse_body.proofs.Productions.{static_reads, static_halts, static_spans}
+use Rattle.php_parse_body.proofs.operands.static_member.Goals as goal
+
+pub returns-in_default : goal.returns-in_default
+returns-in_default c = λ room deep.
+    let o = c.requires.here in
+    let d = c.requires.colons in
+    record { halts = static_halts o.token d.token o.stands.is o.role_is d.stands.is d.role_is (rw c.in_default.is at c.in_ok-member.ensures) deep; ahead = omega arith; within = omega (arith, d.stands.within) }
+
+pub returns : goal.returns
+returns c = λ room deep.
+    let o = c.requires.here in
+    let d = c.requires.colons in
+    let m = rw c.in-Some.is at c.in_ok-member.ensures in
+    record {
+      form = static_member tt m.0;
+      spans = static_spans c.args.tokens.now _ _ _ m.0 c.args.at c.of_static.ensures c.spot.ensures m.2;
+      reads = static_reads o.token d.token m.1.token m.0 o.stands.is o.role_is d.stands.is d.role_is m.1.stands.is m.1.role_is deep;
+      edge_is = refl;
+      opened = omega arith;
+      no_call = refl;
+      ahead = omega arith;
+      within = omega (arith, m.1.stands.within);
+    }

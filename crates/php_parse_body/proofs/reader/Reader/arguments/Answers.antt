@@ -1,0 +1,25 @@
+use Rattle.std.proofs.Common.{◌≡◌, ◌+◌, ◌-◌, ◌∙◌, refl, arith, inl, inr, ap, sym, map}
+use Rattle.std.proofs.lemmas.Result.{err_from_is_err_and}
+use Rattle.php_parse_body.proofs.Fails.{later, within, between, fewer}
+use Rattle.php_ast.specs.Tree.{none}
+use Rattle.php_ast.specs.View.{arguments_from}
+use Rattle.php_parse_body.specs.Parts.{argument_parts}
+use Rattle.php_parse_body.proofs.Listings.{no_arguments_read, no_arguments_halt}
+use Rattle.php_parse_body.proofs.reader.Reader.arguments.Goals as goal
+
+pub returns-then-room-eq1 : goal.returns-then-room-eq1
+returns-then-room-eq1 g c = λ h is.
+    let e = c.if-not-ends_with.ensures.yes refl in
+    record { halts = no_arguments_halt e.token h is e.stands.is e.role_is c.if-room-eq1.true; ahead = omega arith; within = c.requires.within }
+
+pub returns : goal.returns
+returns g c =
+    let e = c.if-not-ends_with.ensures.yes refl in
+    let deep = c.requires.ready.deep in
+    record {
+      items = none;
+      spans = record { shown = ap (λ l. arguments_from none (map argument_parts l)) c.new.ensures; sized = omega arith };
+      reads = λ h is. no_arguments_read e.token h is e.stands.is e.role_is (omega arith);
+      ahead = omega arith;
+      within = omega (arith, e.stands.within);
+    }

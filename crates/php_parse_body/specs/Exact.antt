@@ -1,0 +1,96 @@
+-- What is answered of the expression that begins at a place.
+use Rattle.std.specs.Prelude.{◌≡◌, ◌≤◌, ◌<◌, ℕ, ◌+◌, ◌-◌, Bool, true, false, nat_lt, if◌then◌else◌, List, [], ◌∷◌, ◌++◌, map, take, drop, length, get_or}
+use Rattle.php_lex.specs.Token.{Token, token_at}
+use Rattle.php_ast.specs.declared.expression.Expr.{Expr}
+use Rattle.php_ast.specs.Symbol.{Symbol, symbol}
+use Rattle.php_ast.specs.Tree.{Tree}
+use Rattle.php_ast.specs.Proper.{ends_bare}
+use Rattle.php_ast.specs.View.{Note, view}
+use Rattle.php_ast.specs.Placed.{form_of}
+use Rattle.php_ast.specs.Nesting.{nests}
+use Rattle.php_ast.specs.Sign.{ends_yield}
+use Rattle.php_ast.specs.Machine.{Form}
+use Rattle.php_ast.specs.Laws.{Spells, BeginsExpression, IsSpelled, head_continuation}
+use Rattle.php_parse_body.specs.declared.fail.ParseFail.{ParseFail}
+use Rattle.php_parse_body.specs.declared.fail.ParseFail.TheVariants.{Syntax, TooDeep, NoMemory}
+use Rattle.php_parse_body.specs.declared.fail.Stop.{Stop}
+use Rattle.php_parse_body.specs.declared.fail.Stop.TheVariants as stop
+use Rattle.php_parse_body.specs.Seen.{rest}
+
+-- ---- the tokens from one place to before another
+
+abbrev pub between : List Token → ℕ → ℕ → List Token
+between tokens at k = take (k - at) (drop at tokens)
+
+abbrev pub symbols : List Token → ℕ → ℕ → List Symbol
+symbols tokens at k = map symbol (between tokens at k)
+
+-- The tokens from a place to before k begin an expression, and no more tokens do.
+pub record Reaches (tokens : List Token) (at k : ℕ) : Type 0 where
+  pub ahead : at ≤ k
+  pub within : k ≤ length tokens
+  pub begins : BeginsExpression (symbols tokens at k)
+  pub most : (j : ℕ) → k < j → j ≤ length tokens → BeginsExpression (symbols tokens at j) → ⊥
+
+-- A `yield` alone at the end of a tree stands before what may follow it.
+abbrev pub MayStand : Form → List Token → ℕ → Type 0
+MayStand e tokens k = ends_bare e ≡ true → ends_yield (head_continuation (rest tokens k)) ≡ true
+
+-- ---- nesting, counted from a depth on
+
+-- the limit of nesting
+abbrev pub limit : ℕ
+limit = 128
+
+abbrev pub AllWithin : ℕ → List ℕ → Type 0
+AllWithin depth [] = Unit {0}
+AllWithin depth (d ∷ ds) = (depth + d ≤ limit) × AllWithin depth ds
+
+-- the first of these that is too deep is at a place
+abbrev pub SinksAt : ℕ → ℕ → List ℕ → Type 0
+SinksAt depth n ds = AllWithin depth (take n ds) × (limit < depth + get_or ds n 0)
+
+-- ---- lines
+
+-- of the token at a place, and behind the last token its line, or 1 where there is no token
+abbrev pub line_at : List Token → ℕ → ℕ
+line_at [] k = 1
+line_at tokens k = if nat_lt k (length tokens) then (token_at tokens k).line else (token_at tokens (length tokens - 1)).line
+
+-- ---- answers
+
+-- The tokens from a place to before k spell this expression and no other, none of them is nested too deep, and
+-- no more tokens begin an expression.
+pub record IsRead (depth : ℕ) (tokens : List Token) (at : ℕ) (e : Expr) (k : ℕ) : Type 0 where
+  pub reaches : Reaches tokens at k
+  pub spelled : IsSpelled tokens at (view e) (between tokens at k)
+  pub stands : MayStand (form_of (view e)) tokens k
+  pub only : (a : Tree Note) → IsSpelled tokens at a (between tokens at k) → a ≡ view e
+  pub shallow : AllWithin depth (nests (form_of (view e)) 0 [])
+
+-- The tokens from a place to before k begin an expression and spell none, none of them is nested too deep, and no
+-- more tokens begin an expression.
+pub record IsSyntax (depth : ℕ) (tokens : List Token) (at k line : ℕ) : Type 0 where
+  pub reaches : Reaches tokens at k
+  pub unspelled : (e : Form) → Spells e (symbols tokens at k) → MayStand e tokens k → ⊥
+  pub shallow : (e : Form) (more : List Symbol) → Spells e (symbols tokens at k ++ more) → AllWithin depth (take (k - at) (nests e 0 []))
+  pub on_line : line ≡ line_at tokens k
+
+-- The tokens from a place on begin an expression up to and with token k, the first one that is nested too deep.
+pub record IsTooDeep (depth : ℕ) (tokens : List Token) (at k line : ℕ) : Type 0 where
+  pub ahead : at ≤ k
+  pub within : k < length tokens
+  pub begins : BeginsExpression (symbols tokens at (k + 1))
+  pub sinks : (e : Form) (more : List Symbol) → Spells e (symbols tokens at (k + 1) ++ more) → SinksAt depth (k - at) (nests e 0 [])
+  pub on_line : line ≡ line_at tokens k
+
+abbrev pub IsRefused : ℕ → List Token → ℕ → ParseFail → Type 0
+IsRefused depth tokens at (Syntax k line) = IsSyntax depth tokens at k line
+IsRefused depth tokens at (TooDeep k line) = IsTooDeep depth tokens at k line
+IsRefused depth tokens at NoMemory = Unit {0}
+
+-- the same failure, with its line
+abbrev pub IsLined : List Token → Stop → ParseFail → Type 0
+IsLined tokens (stop.Syntax k) fail = fail ≡ Syntax k (line_at tokens k)
+IsLined tokens (stop.TooDeep k) fail = fail ≡ TooDeep k (line_at tokens k)
+IsLined tokens stop.NoMemory fail = fail ≡ NoMemory

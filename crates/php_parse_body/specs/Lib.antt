@@ -1,0 +1,6 @@
+pub mod SignView
+pub mod Walk
+pub mod Seen
+pub mod Answer
+pub mod Parts
+pub mod Exact

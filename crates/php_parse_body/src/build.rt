@@ -1,0 +1,247 @@
+// Makes trees from their parts.
+
+ghost use Rattle.std.specs.Prelude.{◌≡◌, ◌++◌, [], ◌∷◌, map, IfOk};
+ghost use Rattle.php_ast.specs.Tree as tree;
+ghost use Rattle.php_ast.specs.View as shown;
+ghost use Rattle.php_ast.specs.View.{view, note};
+ghost use Rattle.php_parse_body.specs.Parts as part;
+
+use php_ast::{
+    Argument, ArrayForm, Assign, Binary, Class, Count, Expr, Grouping, Item, Link, Member, Named,
+    Piece, Prefix, Spot, Suffix, row_of,
+};
+use sqlite_items::{Boxed, Items};
+use std::alloc::{AllocError, Global};
+
+pub(crate) fn grouped(alloc: Global, spot: Spot, inside: Expr) -> Result<Expr, AllocError>
+    ensures { IfOk result (λ e. view e ≡ tree.enclosed (note spot) tree.parentheses (view inside)) }
+{
+    Ok(Expr::Group(spot, Boxed::new(alloc, inside)?))
+}
+
+pub(crate) fn emptied(alloc: Global, spot: Spot, inside: Expr) -> Result<Expr, AllocError>
+    ensures { IfOk result (λ e. view e ≡ tree.enclosed (note spot) tree.emptiness (view inside)) }
+{
+    Ok(Expr::Empty(spot, Boxed::new(alloc, inside)?))
+}
+
+pub(crate) fn exited(alloc: Global, spot: Spot, inside: Expr) -> Result<Expr, AllocError>
+    ensures { IfOk result (λ e. view e ≡ tree.enclosed (note spot) tree.exiting (view inside)) }
+{
+    Ok(Expr::ExitWith(spot, Boxed::new(alloc, inside)?))
+}
+
+pub(crate) fn bare_exit(spot: Spot) -> Expr
+    ensures { view result ≡ tree.exit (note spot) }
+{
+    Expr::Exit(spot)
+}
+
+pub(crate) fn empty_exit(spot: Spot) -> Expr
+    ensures { view result ≡ tree.exit_empty (note spot) }
+{
+    Expr::ExitEmpty(spot)
+}
+
+pub(crate) fn of_static(spot: Spot, member: Member) -> Expr
+    ensures { view result ≡ tree.static_member (note spot) (shown.member_view member) }
+{
+    Expr::StaticMember(spot, member)
+}
+
+pub(crate) fn yielded_nothing(spot: Spot) -> Expr
+    ensures { view result ≡ tree.yield_nothing (note spot) }
+{
+    Expr::YieldNothing(spot)
+}
+
+pub(crate) fn listed(spot: Spot, form: ArrayForm, items: Items<Item<Expr>>) -> Expr
+    ensures { view result ≡ tree.listed (note spot) (tree.array form) (shown.items_from tree.none (map part.item_parts items)) }
+{
+    Expr::Array(spot, form, items)
+}
+
+pub(crate) fn tested(spot: Spot, values: Items<Expr>) -> Expr
+    ensures { view result ≡ tree.listed (note spot) tree.isset (shown.values_from tree.none (map view values)) }
+{
+    Expr::IsSet(spot, values)
+}
+
+pub(crate) fn templated(spot: Spot, pieces: Items<Piece<Expr>>) -> Expr
+    ensures { view result ≡ tree.template (note spot) (shown.pieces_from tree.no_piece (map part.piece_parts pieces)) }
+{
+    Expr::Template(spot, pieces)
+}
+
+/// The suffix `-> name`.
+pub(crate) fn property_of(member: Member) -> Suffix<Expr>
+    ensures { (e : tree.Tree shown.Note) → shown.with_suffix e (part.suffix_parts result) ≡ tree.selected e tree.thin (shown.member_view member) }
+{
+    match member {
+        Member::Word(word) => Suffix::Property(Named::Word(word)),
+        Member::Variable(name) => Suffix::Property(Named::Variable(name)),
+    }
+}
+
+/// An operand with its suffixes.
+pub(crate) fn chained(
+    alloc: Global,
+    first: Expr,
+    suffixes: Items<Suffix<Expr>>,
+) -> Result<Expr, AllocError>
+    ensures { IfOk result (λ e. view e ≡ shown.with_suffixes (view first) (map part.suffix_parts suffixes)) }
+{
+    if suffixes.is_empty() {
+        return Ok(first);
+    }
+    Ok(Expr::Chain(Boxed::new(alloc, first)?, suffixes))
+}
+
+pub(crate) fn made(spot: Spot, class: Class<Expr>) -> Expr
+    ensures { view result ≡ tree.new (note spot) (shown.class_view (part.class_parts class)) }
+{
+    Expr::New(spot, class)
+}
+
+pub(crate) fn made_with(spot: Spot, class: Class<Expr>, arguments: Items<Argument<Expr>>) -> Expr
+    ensures { view result ≡ tree.new_with (note spot) (shown.class_view (part.class_parts class)) (shown.arguments_from tree.none (map part.argument_parts arguments)) }
+{
+    Expr::NewWith(spot, class, arguments)
+}
+
+pub(crate) fn prefixed(
+    alloc: Global,
+    spot: Spot,
+    op: Prefix,
+    operand: Expr,
+) -> Result<Expr, AllocError>
+    ensures { IfOk result (λ e. view e ≡ tree.prefix (note spot) op (view operand)) }
+{
+    Ok(Expr::Prefix(spot, op, Boxed::new(alloc, operand)?))
+}
+
+pub(crate) fn counted(alloc: Global, operand: Expr, count: Count) -> Result<Expr, AllocError>
+    ensures { IfOk result (λ e. view e ≡ tree.counted (view operand) count) }
+{
+    Ok(Expr::Counted(Boxed::new(alloc, operand)?, count))
+}
+
+pub(crate) fn assigned(
+    alloc: Global,
+    op: Assign,
+    target: Expr,
+    value: Expr,
+) -> Result<Expr, AllocError>
+    ensures { IfOk result (λ e. view e ≡ tree.assign (tree.by_value op) (view target) (view value)) }
+{
+    Ok(Expr::Assign(op, Boxed::new(alloc, target)?, Boxed::new(alloc, value)?))
+}
+
+pub(crate) fn referred(alloc: Global, target: Expr, source: Expr) -> Result<Expr, AllocError>
+    ensures { IfOk result (λ e. view e ≡ tree.assign tree.by_reference (view target) (view source)) }
+{
+    Ok(Expr::AssignReference(Boxed::new(alloc, target)?, Boxed::new(alloc, source)?))
+}
+
+pub(crate) fn yielded(alloc: Global, spot: Spot, value: Expr) -> Result<Expr, AllocError>
+    ensures { IfOk result (λ e. view e ≡ tree.yield_value (note spot) (view value)) }
+{
+    Ok(Expr::Yield(spot, Boxed::new(alloc, value)?))
+}
+
+pub(crate) fn yielded_pair(
+    alloc: Global,
+    spot: Spot,
+    key: Expr,
+    value: Expr,
+) -> Result<Expr, AllocError>
+    ensures { IfOk result (λ e. view e ≡ tree.yield_pair (note spot) (view key) (view value)) }
+{
+    Ok(Expr::YieldPair(spot, Boxed::new(alloc, key)?, Boxed::new(alloc, value)?))
+}
+
+pub(crate) fn checked(alloc: Global, left: Expr, class: Expr) -> Result<Expr, AllocError>
+    ensures { IfOk result (λ e. view e ≡ tree.instance (view left) (view class)) }
+{
+    Ok(Expr::InstanceOf(Boxed::new(alloc, left)?, Boxed::new(alloc, class)?))
+}
+
+pub(crate) fn checked_static(alloc: Global, left: Expr, spot: Spot) -> Result<Expr, AllocError>
+    ensures { IfOk result (λ e. view e ≡ tree.static_instance (view left) (note spot)) }
+{
+    Ok(Expr::InstanceOfStatic(Boxed::new(alloc, left)?, spot))
+}
+
+fn paired(alloc: Global, op: Binary, left: Expr, right: Expr) -> Result<Expr, AllocError>
+    ensures { IfOk result (λ e. view e ≡ tree.binary op (view left) (view right)) }
+{
+    Ok(Expr::Binary(op, Boxed::new(alloc, left)?, Boxed::new(alloc, right)?))
+}
+
+/// The power of the operator of a link.
+fn power_of(link: &Link<Expr>) -> u8 {
+    match link {
+        Link::Operator(op, _) => row_of(*op).power,
+        Link::Choice(..) | Link::ShortChoice(_) => 10,
+    }
+}
+
+/// Whether a run goes on with a link of this power.
+fn continues(links: &Items<Link<Expr>>, power: u8) -> bool {
+    match links.get(0) {
+        Some(link) => power_of(link) == power,
+        None => false,
+    }
+}
+
+/// The first link of a run behind its first operand.
+fn begun(alloc: Global, first: Expr, link: Link<Expr>) -> Result<Expr, AllocError>
+    ensures { IfOk result (λ e. view e ≡ shown.with_link (view first) (part.link_parts link)) }
+{
+    let mut links = Items::new(alloc);
+    links.push(link)?;
+    Ok(Expr::Run(Boxed::new(alloc, first)?, links))
+}
+
+fn run_of(first: Boxed<Expr>, links: Items<Link<Expr>>) -> Expr
+    ensures { view result ≡ shown.with_links (view first) (map part.link_parts links) }
+{
+    Expr::Run(first, links)
+}
+
+/// One more link behind a run.
+fn continued(
+    alloc: Global,
+    first: Boxed<Expr>,
+    links: Items<Link<Expr>>,
+    link: Link<Expr>,
+) -> Result<Expr, AllocError>
+    ensures { IfOk result (λ e. view e ≡ shown.with_link (shown.with_links (view first) (map part.link_parts links)) (part.link_parts link)) }
+{
+    if !continues(&links, power_of(&link)) {
+        return begun(alloc, Expr::Run(first, links), link);
+    }
+    let mut longer = links;
+    longer.push(link)?;
+    Ok(run_of(first, longer))
+}
+
+/// An expression that goes on with a link; operators of one power are one run.
+pub(crate) fn linked(alloc: Global, left: Expr, link: Link<Expr>) -> Result<Expr, AllocError>
+    ensures { IfOk result (λ e. view e ≡ shown.with_link (view left) (part.link_parts link)) }
+{
+    match left {
+        Expr::Run(first, links) => continued(alloc, first, links, link),
+        other => begun(alloc, other, link),
+    }
+}
+
+/// An operator between two operands: a link of a run where it groups to the left.
+pub(crate) fn joined(alloc: Global, op: Binary, left: Expr, right: Expr) -> Result<Expr, AllocError>
+    ensures { IfOk result (λ e. view e ≡ tree.binary op (view left) (view right)) }
+{
+    match row_of(op).grouping {
+        Grouping::ToLeft => linked(alloc, left, Link::Operator(op, right)),
+        Grouping::ToRight | Grouping::Ungrouped => paired(alloc, op, left, right),
+    }
+}

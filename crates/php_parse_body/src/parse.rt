@@ -1,0 +1,95 @@
+// The expression that begins at a place among the tokens of a script.
+
+ghost use Rattle.std.specs.Prelude.{◌≡◌, ◌≤◌, ◌-◌, length, IfOk, IfErr};
+ghost use Rattle.php_parse_body.specs.Exact as exact;
+
+use crate::expression::expr;
+use crate::fail::{ParseFail, Stop};
+use php_ast::Expr;
+use php_lex::Tokens;
+use std::alloc::Global;
+
+/// The line of the token at a place; behind the last token its line, or 1 where there is no token.
+fn line_of(tokens: &Tokens, place: usize) -> u32
+    ensures { result ≡ exact.line_at tokens.now place }
+{
+    let count = tokens.len();
+    if count == 0 {
+        return 1;
+    }
+    if place < count {
+        return tokens.line(place);
+    }
+    tokens.line(count - 1)
+}
+
+fn with_line(tokens: &Tokens, stop: Stop) -> ParseFail
+    ensures { exact.IsLined tokens.now stop result }
+{
+    match stop {
+        Stop::Syntax(place) => ParseFail::Syntax(place, line_of(tokens, place)),
+        Stop::TooDeep(place) => ParseFail::TooDeep(place, line_of(tokens, place)),
+        Stop::NoMemory => ParseFail::NoMemory,
+    }
+}
+
+/// The expression that begins at the token `at`, and the place of the first token behind it.
+///
+/// Of the tokens from `at` on as many are read as begin an expression. Where these spell one, it is answered;
+/// else `Syntax` with the place of the first token that was not read, and its line. A token behind them that
+/// no expression goes on with is left to the caller. `depth` is how many constructs are open around `at`;
+/// the first token inside more than 128 of them is `TooDeep`. The time is linear in the number of tokens
+/// read, and calls nest only as deep as constructs do.
+pub fn parse_expr(
+    alloc: Global,
+    tokens: &Tokens,
+    at: usize,
+    depth: u32,
+) -> Result<(Expr, usize), ParseFail>
+    requires within { at ≤ length tokens.now }
+    requires shallow { depth ≤ 128 }
+    ensures read { IfOk result (λ r. exact.IsRead depth tokens.now at r.0 r.1) }
+    ensures refused { IfErr result (λ fail. exact.IsRefused depth tokens.now at fail) }
+{
+    match expr(alloc, tokens, at, 1, 129 - depth as usize) {
+        Ok(read) => Ok((read.expr, read.next)),
+        Err(stop) => Err(with_line(tokens, stop)),
+    }
+}
+
+#[cfg(test)]
+mod tests {
+    use super::*;
+    use php_lex::lex;
+    use std::test::Fail;
+
+    /// The place that is answered of the expression at the front of a script, with a digit for the answer: 4 where
+    /// the script is longer than a lexer takes.
+    fn place(alloc: Global, script: &[u8]) -> Result<(u8, usize), Fail> {
+        if script.len() > 1_048_576 {
+            return Ok((4, 0));
+        }
+        let tokens = lex(alloc, script)?;
+        Ok(match parse_expr(alloc, &tokens, 0, 0) {
+            Ok((_, next)) => (0, next),
+            Err(ParseFail::Syntax(at, _)) => (1, at),
+            Err(ParseFail::TooDeep(at, _)) => (2, at),
+            Err(ParseFail::NoMemory) => (3, 0),
+        })
+    }
+
+    #[test]
+    fn reads_as_much_as_an_expression(rt: HostRuntime) -> Result<(), Fail> {
+        let alloc = rt.alloc();
+        assert!(rt; place(alloc, b"<?php 1 + 2 ;")? == (0, 3));
+        assert!(rt; place(alloc, b"<?php 1 + ;")? == (1, 2));
+        assert!(rt; place(alloc, b"<?php 1 < 2 < 3;")? == (0, 3));
+        assert!(rt;
+            place(
+                alloc,
+                b"<?php f($a, ...[1, 2 => &$b])[0]->{'x'}::C(new D) ?: yield;"
+            )? == (0, 30)
+        );
+        Ok(())
+    }
+}
