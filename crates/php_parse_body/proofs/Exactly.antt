@@ -20,8 +20,9 @@ use Rattle.php_parse_body.specs.declared.reader.Read.{Read}
 use Rattle.php_parse_body.specs.Walk.{walk, whole, short, deep}
 use Rattle.php_parse_body.specs.Seen.{rest}
 use Rattle.php_parse_body.specs.Answer.{Found, StopsAt, Fails}
-use Rattle.php_parse_body.specs.Exact.{AllWithin, between, symbols, Reaches, IsRead, IsSyntax, IsTooDeep, IsRefused, IsLined, line_at}
+use Rattle.php_parse_body.specs.Exact.{between, symbols, Reaches, IsRead, IsSyntax, IsTooDeep, IsRefused, IsLined, line_at}
 use Rattle.php_parse_body.proofs.Blanks.{blank}
+use Rattle.php_parse_body.proofs.Depths.{AllWithin, none_deep, first_deep}
 use Rattle.php_parse_body.proofs.Wholes.{cancel, over, ends_deep, whole_walk, short_walk, deep_walk}
 use Rattle.php_parse_body.proofs.Walked.{walks, EndsIn}
 use Rattle.php_ast.specs.Nesting.{nests}
@@ -90,7 +91,7 @@ is_read depth room n tokens at r room_is sum found =
       spelled = spelled;
       stands = λ h. found.bare (ap ends_bare (sym form) ∙ h);
       only = λ a p. one_tree tokens at (between tokens at r.next) a (view r.expr) p spelled;
-      shallow = subst (λ z. AllWithin depth (nests z 0 [])) (sym form) (w.shallow depth sum);
+      shallow = none_deep depth (nests (form_of (view r.expr)) 0 []) (subst (λ z. AllWithin depth (nests z 0 [])) (sym form) (w.shallow depth sum));
     }
 
 pub is_syntax : (depth room n : ℕ) (tokens : List Token) (at k line : ℕ) → room ≡ suc n → n + depth ≡ 128 → StopsAt false room 1 (λ s. expects s) (rest tokens at) tokens at k → line ≡ line_at tokens k → IsSyntax depth tokens at k line
@@ -100,7 +101,7 @@ is_syntax depth room n tokens at k line room_is sum stops on_line =
     record {
       reaches = reaches tokens at k stops.ahead stops.within w.begins w.most;
       unspelled = w.unspelled;
-      shallow = λ e more spells. w.shallow depth (k - at) e more sum (symbols_length tokens at k stops.ahead stops.within) spells;
+      shallow = λ e more spells. none_deep depth (take (k - at) (nests e 0 [])) (w.shallow depth (k - at) e more sum (symbols_length tokens at k stops.ahead stops.within) spells);
       on_line = on_line;
     }
 
@@ -134,7 +135,7 @@ is_too_deep depth room n tokens at k line room_is sum stops on_line =
       ahead = stops.ahead;
       within = inside;
       begins = subst BeginsExpression (sym more) w.begins;
-      sinks = λ e rest_of spells. w.sinks depth (k - at) e rest_of sum (symbols_length tokens at k stops.ahead stops.within) (spells.0, spells.1 ∙ ap (λ z. z ++ rest_of) more);
+      sinks = λ e rest_of spells. first_deep depth (k - at) (nests e 0 []) (omega arith) (w.sinks depth (k - at) e rest_of sum (symbols_length tokens at k stops.ahead stops.within) (spells.0, spells.1 ∙ ap (λ z. z ++ rest_of) more));
       on_line = on_line;
     }
 

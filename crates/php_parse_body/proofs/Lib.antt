@@ -10,6 +10,7 @@ pub mod Founds
 pub mod Listings
 pub mod Makes
 pub mod Heads
+pub mod Depths
 pub mod Walked
 pub mod Wholes
 pub mod Blanks

@@ -20,7 +20,7 @@ use Rattle.php_ast.specs.Laws.{Spells, BeginsExpression, EndsBefore, head_contin
 use Rattle.php_ast.proofs.Appended.{spell_append}
 use Rattle.php_ast.proofs.LawProofs.{reading_begins, reads_back, unfinished, stops_exactly, nesting_agrees}
 use Rattle.php_parse_body.specs.Walk.{whole, short, deep, outcome_of, outcome, walk, Rests, head_strength}
-use Rattle.php_parse_body.specs.Exact.{AllWithin, SinksAt}
+use Rattle.php_parse_body.proofs.Depths.{AllWithin, SinksAt}
 use Rattle.php_parse_body.proofs.Moves.{sticks, draws_some}
 use Rattle.php_parse_body.proofs.Walked.{Walks, Reads, EndsIn, AllAtMost, walks, halt_unread, outcome_whole, outcome_short}
 

@@ -1,5 +1,5 @@
 -- What is answered of the expression that begins at a place.
-use Rattle.std.specs.Prelude.{◌≡◌, ◌≤◌, ◌<◌, ℕ, ◌+◌, ◌-◌, Bool, true, false, nat_lt, if◌then◌else◌, List, [], ◌∷◌, ◌++◌, map, take, drop, length, get_or}
+use Rattle.std.specs.Prelude.{◌≡◌, ◌≤◌, ◌<◌, ℕ, ◌+◌, ◌-◌, true, nat_lt, if◌then◌else◌, Some, None, List, [], ◌++◌, map, take, drop, length}
 use Rattle.php_lex.specs.Token.{Token, token_at}
 use Rattle.php_ast.specs.declared.expression.Expr.{Expr}
 use Rattle.php_ast.specs.Symbol.{Symbol, symbol}
@@ -8,6 +8,7 @@ use Rattle.php_ast.specs.Proper.{ends_bare}
 use Rattle.php_ast.specs.View.{Note, view}
 use Rattle.php_ast.specs.Placed.{form_of}
 use Rattle.php_ast.specs.Nesting.{nests}
+use Rattle.php_ast.specs.TooDeep.{first_too_deep}
 use Rattle.php_ast.specs.Sign.{ends_yield}
 use Rattle.php_ast.specs.Machine.{Form}
 use Rattle.php_ast.specs.Laws.{Spells, BeginsExpression, IsSpelled, head_continuation}
@@ -36,20 +37,6 @@ pub record Reaches (tokens : List Token) (at k : ℕ) : Type 0 where
 abbrev pub MayStand : Form → List Token → ℕ → Type 0
 MayStand e tokens k = ends_bare e ≡ true → ends_yield (head_continuation (rest tokens k)) ≡ true
 
--- ---- nesting, counted from a depth on
-
--- the limit of nesting
-abbrev pub limit : ℕ
-limit = 128
-
-abbrev pub AllWithin : ℕ → List ℕ → Type 0
-AllWithin depth [] = Unit {0}
-AllWithin depth (d ∷ ds) = (depth + d ≤ limit) × AllWithin depth ds
-
--- the first of these that is too deep is at a place
-abbrev pub SinksAt : ℕ → ℕ → List ℕ → Type 0
-SinksAt depth n ds = AllWithin depth (take n ds) × (limit < depth + get_or ds n 0)
-
 -- ---- lines
 
 -- of the token at a place, and behind the last token its line, or 1 where there is no token
@@ -66,14 +53,14 @@ pub record IsRead (depth : ℕ) (tokens : List Token) (at : ℕ) (e : Expr) (k :
   pub spelled : IsSpelled tokens at (view e) (between tokens at k)
   pub stands : MayStand (form_of (view e)) tokens k
   pub only : (a : Tree Note) → IsSpelled tokens at a (between tokens at k) → a ≡ view e
-  pub shallow : AllWithin depth (nests (form_of (view e)) 0 [])
+  pub shallow : first_too_deep depth (nests (form_of (view e)) 0 []) ≡ None
 
 -- The tokens from a place to before k begin an expression and spell none, none of them is nested too deep, and no
 -- more tokens begin an expression.
 pub record IsSyntax (depth : ℕ) (tokens : List Token) (at k line : ℕ) : Type 0 where
   pub reaches : Reaches tokens at k
   pub unspelled : (e : Form) → Spells e (symbols tokens at k) → MayStand e tokens k → ⊥
-  pub shallow : (e : Form) (more : List Symbol) → Spells e (symbols tokens at k ++ more) → AllWithin depth (take (k - at) (nests e 0 []))
+  pub shallow : (e : Form) (more : List Symbol) → Spells e (symbols tokens at k ++ more) → first_too_deep depth (take (k - at) (nests e 0 [])) ≡ None
   pub on_line : line ≡ line_at tokens k
 
 -- The tokens from a place on begin an expression up to and with token k, the first one that is nested too deep.
@@ -81,7 +68,7 @@ pub record IsTooDeep (depth : ℕ) (tokens : List Token) (at k line : ℕ) : Typ
   pub ahead : at ≤ k
   pub within : k < length tokens
   pub begins : BeginsExpression (symbols tokens at (k + 1))
-  pub sinks : (e : Form) (more : List Symbol) → Spells e (symbols tokens at (k + 1) ++ more) → SinksAt depth (k - at) (nests e 0 [])
+  pub sinks : (e : Form) (more : List Symbol) → Spells e (symbols tokens at (k + 1) ++ more) → first_too_deep depth (nests e 0 []) ≡ Some (k - at)
   pub on_line : line ≡ line_at tokens k
 
 abbrev pub IsRefused : ℕ → List Token → ℕ → ParseFail → Type 0
