@@ -38,8 +38,8 @@ fn with_line(tokens: &Tokens, stop: Stop) -> ParseFail
 /// Of the tokens from `at` on as many are read as begin an expression. Where these spell one, it is answered;
 /// else `Syntax` with the place of the first token that was not read, and its line. A token behind them that
 /// no expression goes on with is left to the caller. `depth` is how many constructs are open around `at`;
-/// the first token inside more than 128 of them is `TooDeep`. The time is linear in the number of tokens
-/// read, and calls nest only as deep as constructs do.
+/// the first token inside more than 128 of them is `TooDeep`. Calls nest as constructs do and, inside each,
+/// as operators of rising power do.
 pub fn parse_expr(
     alloc: Global,
     tokens: &Tokens,
