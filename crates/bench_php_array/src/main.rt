@@ -24,8 +24,8 @@ fn main(rt: HostRuntime) -> io::Result<()> {
         println!(rt; "one round of {} entries", figures.entries)?;
         return Ok(());
     }
-    // A slot has a tag, a serial and a key. A map has the key again, the place, the hash and its part
-    // of the table.
+    // An entry has a serial and a key, and its value a tag. A map has the key again, the place, the hash
+    // and its part of the table.
     let packed = 16 + size_of::<Key>();
     let hashed = packed + size_of::<Key>() + size_of::<usize>() + 16;
     println!(rt;

@@ -17,7 +17,7 @@ pub struct Figures {
     pub front: u64,
     pub back: u64,
     pub anywhere: u64,
-    /// Elements as large as a slot, taken out of a plain vector in the same scattered order.
+    /// Optional values, taken out of a plain vector in the same scattered order.
     pub plain: u64,
     pub iterate: u64,
     pub texts: u64,
@@ -132,14 +132,13 @@ fn remove(rt: &(impl Clock + Alloc<A = Global>), figures: &mut Figures) -> io::R
 fn take_plain(rt: &(impl Clock + Alloc<A = Global>), figures: &mut Figures) -> io::Result<()> {
     let mut plain = Vec::new(rt.alloc());
     for number in 0..figures.entries {
-        let serial = u64::from(number) + 1;
-        plain.push(Some((serial, Key::Int(i64::from(number)), number)))?;
+        plain.push(Some(number))?;
     }
     let start = Instant::now(rt)?;
     for turn in 0..figures.entries {
         let place = scattered_place(turn, figures.entries) as usize;
         if let Some(element) = plain.get_mut(place) {
-            if let Some((_, _, value)) = element.take() {
+            if let Some(value) = element.take() {
                 figures.sum = figures.sum.wrapping_add(u64::from(value));
             }
         }

@@ -5,10 +5,8 @@ use Rattle.std.proofs.lemmas.Bool.{cases_lt, lt-ltb, le-ltb}
 use Rattle.php_value.specs.declared.key.Key.{Key}
 use Rattle.php_entries.specs.Listing.{Entry, Listing, entry_at, value_at, entry_after}
 use Rattle.php_array.specs.Kept.{listing_of}
-use Rattle.php_array.specs.Slots.{stored_at, serial_at, entry_of, entries_in, AreHoles}
-use Rattle.php_array.specs.declared.slot.Slot.{Slot}
-use Rattle.php_array.specs.declared.slot.Slot.TheVariants.{Hole, Live}
-use Rattle.php_array.specs.declared.slot.Stored.{Stored}
+use Rattle.php_array.specs.Slots.{stored_at, serial_at, entries_in, AreHoles}
+use Rattle.php_array.specs.Slot.{Slot, Hole, Live}
 use Rattle.php_array.proofs.RepackLemmas.{drop-entries}
 
 -- a key without a value has no entry
@@ -27,13 +25,13 @@ module _ {T : Type 0} where
   find-through serial (suc n) (Hole m ∷ ss) h = find-through serial n ss (λ i below. h (suc i) (omega arith))
   find-through serial (suc n) (Live e ∷ ss) h =
       let low : e.serial ≤ serial = h 0 (omega arith) in
-      ap (λ (b : Bool). cond b (Some (entry_of e)) (find (λ (x : Entry T). nat_lt serial x.serial) (entries_in ss))) (le-ltb serial e.serial low)
+      ap (λ (b : Bool). cond b (Some e) (find (λ (x : Entry T). nat_lt serial x.serial) (entries_in ss))) (le-ltb serial e.serial low)
       ∙ find-through serial n ss (λ i below. h (suc i) (omega arith))
 
-  stored-serial : (i : ℕ) (ss : List (Slot T)) (e : Stored T) → stored_at i ss ≡ Some e → (serial_at i ss ≡ e.serial) × (i < length ss)
+  stored-serial : (i : ℕ) (ss : List (Slot T)) (e : Entry T) → stored_at i ss ≡ Some e → (serial_at i ss ≡ e.serial) × (i < length ss)
   stored-serial i [] e there = cc
   stored-serial zero (Hole m ∷ ss) e there = cc
-  stored-serial zero (Live x ∷ ss) e there = let same : x ≡ e = cc in (ap (λ (y : Stored T). y.serial) same, omega arith)
+  stored-serial zero (Live x ∷ ss) e there = let same : x ≡ e = cc in (ap (λ (y : Entry T). y.serial) same, omega arith)
   stored-serial (suc i) (s ∷ ss) e there = let r = stored-serial i ss e there in (r.0, (let below = r.1 in omega arith))
 
   module _ (l : Listing T) (ss : List (Slot T)) (next_key next_serial : ℕ) (view : listing_of ss next_key next_serial ≡ l) (serial through first place : ℕ) (low : (i : ℕ) → i < through → serial_at i ss ≤ serial) (holes : AreHoles first ss) (from : place ≡ max through first) where
@@ -57,7 +55,7 @@ module _ {T : Type 0} where
         ∙ search-from
         ∙ ap (find (λ (e : Entry T). nat_lt serial e.serial)) none
 
-    pub entry_after-some : (high : (i : ℕ) → through ≤ i → i < length ss → serial < serial_at i ss) → (at : ℕ) (e : Stored T) (rest : List (Entry T)) → place ≤ at → stored_at at ss ≡ Some e → entries_in (drop place ss) ≡ entry_of e ∷ rest → entry_after l serial ≡ Some (entry_of e)
+    pub entry_after-some : (high : (i : ℕ) → through ≤ i → i < length ss → serial < serial_at i ss) → (at : ℕ) (e : Entry T) (rest : List (Entry T)) → place ≤ at → stored_at at ss ≡ Some e → entries_in (drop place ss) ≡ e ∷ rest → entry_after l serial ≡ Some e
     entry_after-some high at e rest behind there entries =
         let is = stored-serial at ss e there in
         let above : serial < serial_at at ss = high at (omega arith) is.1 in
@@ -65,4 +63,4 @@ module _ {T : Type 0} where
         ap (λ (m : Listing T). entry_after m serial) (sym view)
         ∙ search-from
         ∙ ap (find (λ (x : Entry T). nat_lt serial x.serial)) entries
-        ∙ ap (λ (b : Bool). cond b (Some (entry_of e)) (find (λ (x : Entry T). nat_lt serial x.serial) rest)) (lt-ltb serial e.serial greater)
+        ∙ ap (λ (b : Bool). cond b (Some e) (find (λ (x : Entry T). nat_lt serial x.serial) rest)) (lt-ltb serial e.serial greater)

@@ -12,7 +12,7 @@ use Rattle.php_entries.proofs.SoundLemmas.{with_values-sound}
 use Rattle.php_array.specs.Kept.{listing_of, IsKept}
 use Rattle.php_array.specs.Slots.{serial_of, entries_in, DoSerialsRise}
 use Rattle.php_array.specs.declared.key_index.KeyIndex.{KeyIndex}
-use Rattle.php_array.specs.declared.slot.Slot.{Slot}
+use Rattle.php_array.specs.Slot.{Slot}
 
 module _ {T : Type 0} where
   -- the entry behind the first ones

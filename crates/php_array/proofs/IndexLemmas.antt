@@ -12,10 +12,8 @@ use Rattle.php_entries.specs.Soundness.{AreKeysDistinct}
 use Rattle.php_array.specs.Index.{place_in, candidate, SetsPlace, ForgetsKey, IsIndexed}
 use Rattle.php_array.specs.declared.key_index.KeyIndex.{KeyIndex}
 use Rattle.php_array.specs.declared.key_index.KeyIndex.TheVariants.{Packed, Hashed}
-use Rattle.php_array.specs.Slots.{serial_of, entry_of, entries_in, place_of, live_place, stored_at, vacated, HoldsSame}
-use Rattle.php_array.specs.declared.slot.Slot.TheVariants.{Hole, Live}
-use Rattle.php_array.specs.declared.slot.Slot.{Slot}
-use Rattle.php_array.specs.declared.slot.Stored.{Stored}
+use Rattle.php_array.specs.Slots.{serial_of, entries_in, place_of, live_place, stored_at, vacated, HoldsSame}
+use Rattle.php_array.specs.Slot.{Slot, Hole, Live}
 use Rattle.php_entries.proofs.KeyLemmas.{key_eq-true, key_eq-self}
 use Rattle.php_array.proofs.PlaceLemmas.{stored_at-past}
 use Rattle.php_array.proofs.SlotLemmas.{stored-place_of, place_of-take_live, place_of-take_hole, place_of-stored, place_of-vacated, place_of-push, stored_at-vacated, stored_at-push, HoldsSame-hole, place_of-none, place_of-find}
@@ -61,7 +59,7 @@ first_some-all (Some i) p h = refl
 
 module _ {T : Type 0} (ss : List (Slot T)) (i : ℕ) where
   -- a map of the keys before a place, with the key that stands there
-  pub collected_live : (old new : List (Key × ℕ)) (e : Stored T) → AreKeysDistinct (entries_in ss) → stored_at i ss ≡ Some e → SetsPlace old new e.key (Some i) → ((k : Key) → place_in old k ≡ place_of k (take i ss)) → (k : Key) → place_in new k ≡ place_of k (take (i + 1) ss)
+  pub collected_live : (old new : List (Key × ℕ)) (e : Entry T) → AreKeysDistinct (entries_in ss) → stored_at i ss ≡ Some e → SetsPlace old new e.key (Some i) → ((k : Key) → place_in old k ≡ place_of k (take i ss)) → (k : Key) → place_in new k ≡ place_of k (take (i + 1) ss)
   collected_live old new e distinct there sets h k =
       sets k
       ∙ ap (cond (key_eq e.key k) (Some i)) (h k)
@@ -72,7 +70,7 @@ module _ {T : Type 0} (ss : List (Slot T)) (i : ℕ) where
   collected_hole old none h k = h k ∙ sym (place_of-take_hole k i ss none) ∙ ap (λ n. place_of k (take n ss)) (sym (add-one i))
 
   -- a map whose keys before a place are renewed, with the key that stands there
-  pub renewed_live : (first : Key → Option ℕ) (old new : List (Key × ℕ)) (e : Stored T) → AreKeysDistinct (entries_in ss) → stored_at i ss ≡ Some e → SetsPlace old new e.key (Some i) → ((k : Key) → place_in old k ≡ first_some (place_of k (take i ss)) (first k)) → (k : Key) → place_in new k ≡ first_some (place_of k (take (i + 1) ss)) (first k)
+  pub renewed_live : (first : Key → Option ℕ) (old new : List (Key × ℕ)) (e : Entry T) → AreKeysDistinct (entries_in ss) → stored_at i ss ≡ Some e → SetsPlace old new e.key (Some i) → ((k : Key) → place_in old k ≡ first_some (place_of k (take i ss)) (first k)) → (k : Key) → place_in new k ≡ first_some (place_of k (take (i + 1) ss)) (first k)
   renewed_live first old new e distinct there sets h k =
       sets k
       ∙ ap (cond (key_eq e.key k) (Some i)) (h k)
@@ -83,7 +81,7 @@ module _ {T : Type 0} (ss : List (Slot T)) (i : ℕ) where
   renewed_hole first old none h k =
       h k ∙ ap (λ (o : Option ℕ). first_some o (first k)) (sym (place_of-take_hole k i ss none) ∙ ap (λ n. place_of k (take n ss)) (sym (add-one i)))
 
-  pub renewed_there : (first : Key → Option ℕ) (old : List (Key × ℕ)) (e : Stored T) → AreKeysDistinct (entries_in ss) → stored_at i ss ≡ Some e → ((k : Key) → is_some (first k) ≡ is_some (place_of k ss)) → ((k : Key) → place_in old k ≡ first_some (place_of k (take i ss)) (first k)) → IsSome (place_in old e.key)
+  pub renewed_there : (first : Key → Option ℕ) (old : List (Key × ℕ)) (e : Entry T) → AreKeysDistinct (entries_in ss) → stored_at i ss ≡ Some e → ((k : Key) → is_some (first k) ≡ is_some (place_of k ss)) → ((k : Key) → place_in old k ≡ first_some (place_of k (take i ss)) (first k)) → IsSome (place_in old e.key)
   renewed_there first old e distinct there same h =
       let some : is_some (first e.key) ≡ true = same e.key ∙ ap is_some (stored-place_of ss i e distinct there) in
       ap is_some (h e.key) ∙ first_some-there (place_of e.key (take i ss)) (first e.key) some
@@ -118,7 +116,7 @@ module _ {T : Type 0} where
       by (Some i) is =
           let there = place_of-stored k ss i is in
           ap (λ (o : Option ℕ). live_place o ss) (h k ∙ is)
-          ∙ ap (λ (o : Option (Stored T)). cond (is_some o) (Some i) None) there.1
+          ∙ ap (λ (o : Option (Entry T)). cond (is_some o) (Some i) None) there.1
           ∙ sym is
 
   -- slots with the same keys at the same places
@@ -132,7 +130,7 @@ module _ {T : Type 0} where
   live_place-vacated : (o : Option ℕ) (i : ℕ) (ss : List (Slot T)) → (o ≡ Some i → ⊥) → live_place o (vacated i ss) ≡ live_place o ss
   live_place-vacated None i ss apart = refl
   live_place-vacated (Some j) i ss apart =
-      ap (λ (o : Option (Stored T)). cond (is_some o) (Some j) None) ((stored_at-vacated i j ss).1 (λ e. apart (ap Some (sym e))))
+      ap (λ (o : Option (Entry T)). cond (is_some o) (Some j) None) ((stored_at-vacated i j ss).1 (λ e. apart (ap Some (sym e))))
 
   live_place-some : (o : Option ℕ) (i : ℕ) (ss : List (Slot T)) → live_place o ss ≡ Some i → o ≡ Some i
   live_place-some None i ss h = cc
@@ -151,16 +149,16 @@ module _ {T : Type 0} where
             let own : candidate (Packed first) q ≡ Some i =
             live_place-some (candidate (Packed first) q) i ss (h q ∙ ap (λ (x : Key). place_of x ss) (sym (key_eq-true k q same)) ∙ is) in
             ap (λ (o : Option ℕ). live_place o (vacated i ss)) own
-            ∙ ap (λ (o : Option (Stored T)). cond (is_some o) (Some i) None) (stored_at-vacated i i ss).0
+            ∙ ap (λ (o : Option (Entry T)). cond (is_some o) (Some i) None) (stored_at-vacated i i ss).0
             ∙ sym (place_of-vacated k ss i distinct is q ∙ ap (λ (b : Bool). cond b None (place_of q ss)) same))
         | inr apart ↦ (
             let other : candidate (Packed first) q ≡ Some i → ⊥ = λ (own : candidate (Packed first) q ≡ Some i).
             let there = place_of-stored k ss i is in
             let at_q : place_of q ss ≡ Some i =
-            sym (h q) ∙ ap (λ (o : Option ℕ). live_place o ss) own ∙ ap (λ (o : Option (Stored T)). cond (is_some o) (Some i) None) there.1 in
+            sym (h q) ∙ ap (λ (o : Option ℕ). live_place o ss) own ∙ ap (λ (o : Option (Entry T)). cond (is_some o) (Some i) None) there.1 in
             let there_q = place_of-stored q ss i at_q in
             let same_entry : Some there.0 ≡ Some there_q.0 = sym there.1 ∙ there_q.1 in
-            let same_key : k ≡ q = sym there.2 ∙ (let e : there.0 ≡ there_q.0 = cc in ap (λ (x : Stored T). x.key) e) ∙ there_q.2 in
+            let same_key : k ≡ q = sym there.2 ∙ (let e : there.0 ≡ there_q.0 = cc in ap (λ (x : Entry T). x.key) e) ∙ there_q.2 in
             false≢true (sym apart ∙ ap (key_eq k) (sym same_key) ∙ key_eq-self k) in
             live_place-vacated (candidate (Packed first) q) i ss other
             ∙ h q
@@ -177,7 +175,7 @@ module _ {T : Type 0} where
   vacated-last (x ∷ ss) s = ap (λ (rest : List (Slot T)). x ∷ rest) (vacated-last ss s)
 
   -- the last entry that is taken out
-  pub IsIndexed-popped : (old new : KeyIndex) (e : Stored T) (ss : List (Slot T)) → ForgetsKey old new e.key → AreKeysDistinct (entries_in (ss ++ Live e ∷ [])) → IsIndexed old (ss ++ Live e ∷ []) → IsIndexed new ss
+  pub IsIndexed-popped : (old new : KeyIndex) (e : Entry T) (ss : List (Slot T)) → ForgetsKey old new e.key → AreKeysDistinct (entries_in (ss ++ Live e ∷ [])) → IsIndexed old (ss ++ Live e ∷ []) → IsIndexed new ss
   IsIndexed-popped old new e ss forgets distinct h =
       let all = ss ++ Live e ∷ [] in
       let place = stored-place_of all (length ss) e distinct ((stored_at-push 0 ss (Live e)).1) in
@@ -191,19 +189,19 @@ module _ {T : Type 0} where
       elim (cases_order j (length ss)) [
         | inl same ↦ absurd (apart (ap Some same))
         | inr rest ↦ elim rest [
-          | inl below ↦ ap (λ (o : Option (Stored T)). cond (is_some o) (Some j) None) (at.0 below)
-          | inr above ↦ ap (λ (o : Option (Stored T)). cond (is_some o) (Some j) None) (at.2 above ∙ sym (stored_at-past j ss (omega arith)))
+          | inl below ↦ ap (λ (o : Option (Entry T)). cond (is_some o) (Some j) None) (at.0 below)
+          | inr above ↦ ap (λ (o : Option (Entry T)). cond (is_some o) (Some j) None) (at.2 above ∙ sym (stored_at-past j ss (omega arith)))
         ]
       ]
 
   -- a further entry whose key tells its place
-  pub IsIndexed-packed_push : (first : ℕ) (ss : List (Slot T)) (e : Stored T) → place_of e.key ss ≡ None → candidate (Packed first) e.key ≡ Some (length ss) → IsIndexed (Packed first) ss → IsIndexed (Packed first) (ss ++ Live e ∷ [])
+  pub IsIndexed-packed_push : (first : ℕ) (ss : List (Slot T)) (e : Entry T) → place_of e.key ss ≡ None → candidate (Packed first) e.key ≡ Some (length ss) → IsIndexed (Packed first) ss → IsIndexed (Packed first) (ss ++ Live e ∷ [])
   IsIndexed-packed_push first ss e none own h q =
       elim (cases_Bool (key_eq e.key q)) [
         | inl same ↦
             ap (λ (x : Key). live_place (candidate (Packed first) x) (ss ++ Live e ∷ [])) (sym (key_eq-true e.key q same))
             ∙ ap (λ (o : Option ℕ). live_place o (ss ++ Live e ∷ [])) own
-            ∙ ap (λ (o : Option (Stored T)). cond (is_some o) (Some (length ss)) None) ((stored_at-push 0 ss (Live e)).1)
+            ∙ ap (λ (o : Option (Entry T)). cond (is_some o) (Some (length ss)) None) ((stored_at-push 0 ss (Live e)).1)
             ∙ sym (place_of-push q ss e none ∙ ap (λ (b : Bool). cond b (Some (length ss)) (place_of q ss)) same)
         | inr apart ↦ (
             let other : candidate (Packed first) q ≡ Some (length ss) → ⊥ = λ (at : candidate (Packed first) q ≡ Some (length ss)).
@@ -215,7 +213,7 @@ module _ {T : Type 0} where
       ]
 
   -- a further entry whose key is put into the map
-  pub SetsPlace-push : (old new : List (Key × ℕ)) (ss : List (Slot T)) (e : Stored T) → place_of e.key ss ≡ None → SetsPlace old new e.key (Some (length ss)) → ((k : Key) → place_in old k ≡ place_of k ss) → (k : Key) → place_in new k ≡ place_of k (ss ++ Live e ∷ [])
+  pub SetsPlace-push : (old new : List (Key × ℕ)) (ss : List (Slot T)) (e : Entry T) → place_of e.key ss ≡ None → SetsPlace old new e.key (Some (length ss)) → ((k : Key) → place_in old k ≡ place_of k ss) → (k : Key) → place_in new k ≡ place_of k (ss ++ Live e ∷ [])
   SetsPlace-push old new ss e none sets h k =
       sets k ∙ ap (cond (key_eq e.key k) (Some (length ss))) (h k) ∙ sym (place_of-push k ss e none)
 
@@ -229,7 +227,7 @@ IsIndexed-no_slots T first = λ k. nothing (candidate (Packed first) k)
 
 module _ {T : Type 0} where
   -- an index after the key of a further entry was put in
-  pub pushed_packed : (first new_first n : ℕ) (ss : List (Slot T)) (k : Key) → IsIndexed (Packed first) ss → place_of k ss ≡ None → candidate (Packed new_first) k ≡ Some n → n ≡ length ss → (n ≡ 0) ⊎ (new_first ≡ first) → (e : Stored T) → e.key ≡ k → IsIndexed (Packed new_first) (ss ++ Live e ∷ [])
+  pub pushed_packed : (first new_first n : ℕ) (ss : List (Slot T)) (k : Key) → IsIndexed (Packed first) ss → place_of k ss ≡ None → candidate (Packed new_first) k ≡ Some n → n ≡ length ss → (n ≡ 0) ⊎ (new_first ≡ first) → (e : Entry T) → e.key ≡ k → IsIndexed (Packed new_first) (ss ++ Live e ∷ [])
   pushed_packed first new_first n ss k h none own len kept e is =
       IsIndexed-packed_push new_first ss e (ap (λ (q : Key). place_of q ss) is ∙ none) (ap (candidate (Packed new_first)) is ∙ own ∙ ap Some len) (
       elim kept [
@@ -241,7 +239,7 @@ module _ {T : Type 0} where
       no_items [] h = refl
       no_items (x ∷ xs) h = absurd (omega arith)
 
-  pub pushed_hashed : (old new : List (Key × ℕ)) (n : ℕ) (ss : List (Slot T)) (k : Key) → ((q : Key) → place_in old q ≡ place_of q ss) → place_of k ss ≡ None → SetsPlace old new k (Some n) → n ≡ length ss → (e : Stored T) → e.key ≡ k → (q : Key) → place_in new q ≡ place_of q (ss ++ Live e ∷ [])
+  pub pushed_hashed : (old new : List (Key × ℕ)) (n : ℕ) (ss : List (Slot T)) (k : Key) → ((q : Key) → place_in old q ≡ place_of q ss) → place_of k ss ≡ None → SetsPlace old new k (Some n) → n ≡ length ss → (e : Entry T) → e.key ≡ k → (q : Key) → place_in new q ≡ place_of q (ss ++ Live e ∷ [])
   pushed_hashed old new n ss k h none sets len e is =
       SetsPlace-push old new ss e (ap (λ (q : Key). place_of q ss) is ∙ none)
       (λ q. sets q ∙ ap (λ (x : Key). cond (key_eq x q) (Some n) (place_in old q)) (sym is) ∙ ap (λ m. cond (key_eq e.key q) (Some m) (place_in old q)) len)
@@ -264,14 +262,14 @@ module _ {T : Type 0} (index : KeyIndex) (ss : List (Slot T)) (k : Key) (h : IsI
   candidate-hole i own none =
       sym (IsIndexed-live index ss h k)
       ∙ ap (λ (o : Option ℕ). live_place o ss) own
-      ∙ ap (λ (o : Option (Stored T)). cond (is_some o) (Some i) None) none
+      ∙ ap (λ (o : Option (Entry T)). cond (is_some o) (Some i) None) none
 
-  pub candidate-live : (i : ℕ) (e : Stored T) → candidate index k ≡ Some i → stored_at i ss ≡ Some e → place_of k ss ≡ Some i
+  pub candidate-live : (i : ℕ) (e : Entry T) → candidate index k ≡ Some i → stored_at i ss ≡ Some e → place_of k ss ≡ Some i
   candidate-live i e own there =
       sym (IsIndexed-live index ss h k)
       ∙ ap (λ (o : Option ℕ). live_place o ss) own
-      ∙ ap (λ (o : Option (Stored T)). cond (is_some o) (Some i) None) there
+      ∙ ap (λ (o : Option (Entry T)). cond (is_some o) (Some i) None) there
 
-  pub candidate-find : (i : ℕ) (o : Option (Stored T)) → candidate index k ≡ Some i → stored_at i ss ≡ o → option_map entry_of o ≡ find (λ (e : Entry T). key_eq k e.key) (entries_in ss)
+  pub candidate-find : (i : ℕ) (o : Option (Entry T)) → candidate index k ≡ Some i → stored_at i ss ≡ o → o ≡ find (λ (e : Entry T). key_eq k e.key) (entries_in ss)
   candidate-find i None own there = sym (place_of-none k ss (candidate-hole i own there))
   candidate-find i (Some e) own there = sym (place_of-find k ss i e (candidate-live i e own there) there)

@@ -1,6 +1,6 @@
 -- What the parts of an array keep through a change.
 use Rattle.std.proofs.Common.{◌≡◌, ◌<◌, ◌≤◌, ℕ, suc, ◌+◌, ◌-◌, List, [], ◌∷◌, ◌++◌, length, sym, ◌∙◌, ap, subst, arith, Some, None, length-append}
-use Rattle.std.specs.Prelude.{true, Option, option_map, find, is_some, slice_index_or, slice_set}
+use Rattle.std.specs.Prelude.{true, Option, option_map, find, is_some}
 use Rattle.php_value.specs.declared.key.Key.{Key}
 use Rattle.php_entries.specs.Keys.{key_eq, next_key_above, next_key_without}
 use Rattle.php_entries.specs.Listing.{Entry, Listing, entry_at, value_at, last_of, ENTRY_LIMIT, SERIAL_LIMIT, KEY_LIMIT}
@@ -13,13 +13,10 @@ use Rattle.php_entries.proofs.SoundLemmas.{with_value-sound, remove_key-sound, p
 use Rattle.php_array.specs.Answers.{key_and_value, with_serial}
 use Rattle.php_array.specs.Index.{ForgetsKey, IsIndexed}
 use Rattle.php_array.specs.Kept.{listing_of, IsKept, IsRepacked}
-use Rattle.php_array.specs.Slots.{entry_of, entries_in, place_of, stored_at, vacated, revalued, with_value_at, AreHoles, HoldsSame}
+use Rattle.php_array.specs.Slots.{entries_in, place_of, stored_at, vacated, with_value_at, AreHoles, HoldsSame}
 use Rattle.php_array.specs.declared.key_index.KeyIndex.{KeyIndex}
-use Rattle.php_array.specs.declared.slot.Slot.{Slot}
-use Rattle.php_array.specs.declared.slot.Slot.TheVariants.{Live}
-use Rattle.php_array.specs.declared.slot.Stored.{Stored}
+use Rattle.php_array.specs.Slot.{Slot, Live}
 use Rattle.php_array.proofs.IndexLemmas.{IsIndexed-same, IsIndexed-vacated, IsIndexed-popped, IsIndexed-HoldsSame}
-use Rattle.php_array.proofs.PlaceLemmas.{slice_set-value}
 use Rattle.php_array.proofs.SlotLemmas as slot
 
 module _ {T : Type 0} (index : KeyIndex) (ss : List (Slot T)) (first count next_key next_serial : ℕ) (kept : IsKept index ss first count next_key next_serial) where
@@ -38,7 +35,7 @@ module _ {T : Type 0} (index : KeyIndex) (ss : List (Slot T)) (first count next_
 
 module _ {T : Type 0} (l : Listing T) (ss : List (Slot T)) (next_key next_serial : ℕ) (view : listing_of ss next_key next_serial ≡ l) (k : Key) where
   -- the entry of a key, by its place
-  pub entry_at-place : (i : ℕ) (e : Stored T) → place_of k ss ≡ Some i → stored_at i ss ≡ Some e → entry_at l k ≡ Some (entry_of e)
+  pub entry_at-place : (i : ℕ) (e : Entry T) → place_of k ss ≡ Some i → stored_at i ss ≡ Some e → entry_at l k ≡ Some e
   entry_at-place i e place there = ap (λ (m : Listing T). entry_at m k) (sym view) ∙ slot.place_of-find k ss i e place there
 
   pub entry_at-missing : place_of k ss ≡ None → entry_at l k ≡ None
@@ -47,33 +44,31 @@ module _ {T : Type 0} (l : Listing T) (ss : List (Slot T)) (next_key next_serial
   pub value_at-missing : place_of k ss ≡ None → value_at l k ≡ None
   value_at-missing none = ap (option_map (λ (e : Entry T). e.value)) (entry_at-missing none)
 
-  pub value_at-place : (i : ℕ) (v : T) → place_of k ss ≡ Some i → option_map (λ (e : Stored T). e.value) (stored_at i ss) ≡ Some v → value_at l k ≡ Some v
+  pub value_at-place : (i : ℕ) (v : T) → place_of k ss ≡ Some i → option_map (λ (e : Entry T). e.value) (stored_at i ss) ≡ Some v → value_at l k ≡ Some v
   value_at-place i v place value =
       let there = slot.place_of-stored k ss i place in
       ap (option_map (λ (e : Entry T). e.value)) (entry_at-place i there.0 place there.1)
-      ∙ sym (ap (option_map (λ (e : Stored T). e.value)) there.1)
+      ∙ sym (ap (option_map (λ (e : Entry T). e.value)) there.1)
       ∙ value
 
   pub set_value-place : (i : ℕ) (v : T) → place_of k ss ≡ Some i → set_value l k v ≡ Grown (listing_of (with_value_at i v ss) next_key next_serial)
   set_value-place i v place =
       let there = slot.place_of-stored k ss i place in
-      set_value-there l v k (entry_of there.0) (entry_at-place i there.0 place there.1)
+      set_value-there l v k there.0 (entry_at-place i there.0 place there.1)
       ∙ ap (λ (m : Listing T). Grown (record m { entries = with_value k v m.entries })) (sym view)
       ∙ ap (λ (es : List (Entry T)). Grown (record { entries = es; next_key = next_key; next_serial = next_serial })) (sym (slot.entries_in-with_value_at k v ss i place))
 
   -- a value that is written at a key's place is the value under the key
-  pub written-place : (i : ℕ) (d : Slot T) (v : T) → place_of k ss ≡ Some i → d ≡ slice_index_or ss i d → listing_of (slice_set ss i (revalued v d)) next_key next_serial ≡ with_value_under l k v
-  written-place i d v place is =
-      ap (λ (s : Slot T). listing_of (slice_set ss i (revalued v s)) next_key next_serial) is
-      ∙ ap (λ (new : List (Slot T)). listing_of new next_key next_serial) (slice_set-value i ss d v)
-      ∙ ap (λ (es : List (Entry T)). record { entries = es; next_key = next_key; next_serial = next_serial }) (slot.entries_in-with_value_at k v ss i place)
+  pub written-place : (i : ℕ) (v : T) → place_of k ss ≡ Some i → listing_of (with_value_at i v ss) next_key next_serial ≡ with_value_under l k v
+  written-place i v place =
+      ap (λ (es : List (Entry T)). record { entries = es; next_key = next_key; next_serial = next_serial }) (slot.entries_in-with_value_at k v ss i place)
       ∙ ap (λ (m : Listing T). with_value_under m k v) view
 
   -- and setting the key does the same
   pub set_value-written : (i : ℕ) (v : T) → place_of k ss ≡ Some i → set_value l k v ≡ Grown (with_value_under l k v)
   set_value-written i v place =
       let there = slot.place_of-stored k ss i place in
-      set_value-there l v k (entry_of there.0) (entry_at-place i there.0 place there.1)
+      set_value-there l v k there.0 (entry_at-place i there.0 place there.1)
 
 pub is_some-place : {T : Type 0} (k : Key) (ss : List (Slot T)) (i : ℕ) → place_of k ss ≡ Some i → is_some (stored_at i ss) ≡ true
 is_some-place k ss i place = ap is_some (slot.place_of-stored k ss i place).1
@@ -124,15 +119,15 @@ unfolding remove_key
 remove_key-missing l k none = ap (λ (es : List (Entry _)). record l { entries = es }) (sym (slot.without_key-none k l.entries none))
 
 -- the last entry that is taken out
-module _ {T : Type 0} (index forgot : KeyIndex) (ss left : List (Slot T)) (e : Stored T) (first count next_key next_serial : ℕ) (kept : IsKept index ss first count next_key next_serial) (same : HoldsSame ss (left ++ Live e ∷ [])) where
-  popped-entries : entries_in ss ≡ entries_in left ++ entry_of e ∷ []
+module _ {T : Type 0} (index forgot : KeyIndex) (ss left : List (Slot T)) (e : Entry T) (first count next_key next_serial : ℕ) (kept : IsKept index ss first count next_key next_serial) (same : HoldsSame ss (left ++ Live e ∷ [])) where
+  popped-entries : entries_in ss ≡ entries_in left ++ e ∷ []
   popped-entries = sym same.entries ∙ slot.entries_in-append left (Live e ∷ [])
 
-  all-distinct : AreKeysDistinct (entries_in left ++ entry_of e ∷ [])
+  all-distinct : AreKeysDistinct (entries_in left ++ e ∷ [])
   all-distinct = subst (λ (es : List (Entry T)). AreKeysDistinct es) popped-entries kept.sound.keys_distinct
 
   pub popped-distinct : AreKeysDistinct (entries_in left)
-  popped-distinct = (list.AreKeysDistinct-front (entries_in left) (entry_of e) all-distinct).0
+  popped-distinct = (list.AreKeysDistinct-front (entries_in left) e all-distinct).0
 
   pub popped-indexed : ForgetsKey index forgot e.key → IsIndexed forgot left
   popped-indexed forgets =
@@ -144,13 +139,13 @@ module _ {T : Type 0} (index forgot : KeyIndex) (ss left : List (Slot T)) (e : S
   popped-front = slot.AreHoles-front first left (Live e) (same.front first kept.front)
 
   pub popped-count : count ≡ suc (length (entries_in left))
-  popped-count = (let sum = kept.counted ∙ ap length popped-entries in omega (arith, length-append (entries_in left) (entry_of e ∷ [])))
+  popped-count = (let sum = kept.counted ∙ ap length popped-entries in omega (arith, length-append (entries_in left) (e ∷ [])))
 
-  popped-last : last_of (entries_in ss) ≡ Some (entry_of e)
-  popped-last = ap last_of popped-entries ∙ (list.last_of-push (entries_in left) (entry_of e)).0
+  popped-last : last_of (entries_in ss) ≡ Some e
+  popped-last = ap last_of popped-entries ∙ (list.last_of-push (entries_in left) e).0
 
   popped-rest : without_last (entries_in ss) ≡ entries_in left
-  popped-rest = ap without_last popped-entries ∙ (list.last_of-push (entries_in left) (entry_of e)).1
+  popped-rest = ap without_last popped-entries ∙ (list.last_of-push (entries_in left) e).1
 
   pub popped-entry : (l : Listing T) → listing_of ss next_key next_serial ≡ l → Some (e.key, e.value) ≡ option_map key_and_value (last_of l.entries)
   popped-entry l view = sym (ap (λ (m : Listing T). option_map key_and_value (last_of m.entries)) (sym view) ∙ ap (option_map key_and_value) popped-last)
@@ -197,16 +192,16 @@ module _ {T : Type 0} (index : KeyIndex) (ss : List (Slot T)) (first count next_
   added-absent = slot.place_of-no_key k room added-missing
 
   module _ (v : T) (serial next : ℕ) (later : l.next_serial ≤ serial) (within : serial < SERIAL_LIMIT) (few : length l.entries < ENTRY_LIMIT) (fits : IsKeyBelow KEY_LIMIT k) (raised : next ≡ next_key_above k next_key) where
-    abbrev added : Stored T
+    abbrev added : Entry T
     added = record { serial = serial; key = k; value = v }
 
-    added-entries : entries_in (room ++ Live added ∷ []) ≡ entries_in ss ++ entry_of added ∷ []
-    added-entries = slot.entries_in-append room (Live added ∷ []) ∙ ap (λ (es : List (Entry T)). es ++ entry_of added ∷ []) packed.entries
+    added-entries : entries_in (room ++ Live added ∷ []) ≡ entries_in ss ++ added ∷ []
+    added-entries = slot.entries_in-append room (Live added ∷ []) ∙ ap (λ (es : List (Entry T)). es ++ added ∷ []) packed.entries
 
     pub added-after : listing_of (room ++ Live added ∷ []) next (serial + 1) ≡ with_serial l serial k v
     added-after =
         ap (λ (es : List (Entry T)). record { entries = es; next_key = next; next_serial = serial + 1 }) added-entries
-        ∙ ap (λ n. record { entries = entries_in ss ++ entry_of added ∷ []; next_key = n; next_serial = serial + 1 }) raised
+        ∙ ap (λ n. record { entries = entries_in ss ++ added ∷ []; next_key = n; next_serial = serial + 1 }) raised
         ∙ ap (λ (m : Listing T). with_serial m serial k v) view
 
     added-up : next_serial ≤ serial
@@ -218,13 +213,13 @@ module _ {T : Type 0} (index : KeyIndex) (ss : List (Slot T)) (first count next_
         let s = kept.sound in
         let missing = subst (λ (xs : List (Entry T)). HasNoKey k xs) packed.entries added-missing in
         record {
-          keys_distinct = list.AreKeysDistinct-push es (entry_of added) s.keys_distinct missing;
-          keys_below = list.AreKeysBelow-push (next_key_above k next_key) es (entry_of added) (list.AreKeysBelow-raise next_key (next_key_above k next_key) es (next_key_above-up k next_key) s.keys_below) (IsKeyBelow-next_key_above k next_key);
-          serials_rise = list.DoSerialsRise-push 0 es (entry_of added) next_serial s.some_serial added-up s.serials_rise;
+          keys_distinct = list.AreKeysDistinct-push es added s.keys_distinct missing;
+          keys_below = list.AreKeysBelow-push (next_key_above k next_key) es added (list.AreKeysBelow-raise next_key (next_key_above k next_key) es (next_key_above-up k next_key) s.keys_below) (IsKeyBelow-next_key_above k next_key);
+          serials_rise = list.DoSerialsRise-push 0 es added next_serial s.some_serial added-up s.serials_rise;
           some_serial = omega arith;
           next_key_within = next_key_above-within k next_key KEY_LIMIT s.next_key_within fits;
           next_serial_within = omega arith;
-          count_within = (let same = ap (λ (m : Listing T). length m.entries) view in omega (arith, length-append es (entry_of added ∷ [])));
+          count_within = (let same = ap (λ (m : Listing T). length m.entries) view in omega (arith, length-append es (added ∷ [])));
         }
 
     pub added-kept : (new_index : KeyIndex) → IsIndexed new_index (room ++ Live added ∷ []) → IsKept new_index (room ++ Live added ∷ []) room_first (count + 1) next (serial + 1)
@@ -234,5 +229,5 @@ module _ {T : Type 0} (index : KeyIndex) (ss : List (Slot T)) (first count next_
       rise = slot.DoSerialsRise-push 0 room (Live added) next_serial kept.sound.some_serial added-up (packed.rise next_serial kept.rise);
       front = slot.AreHoles-push room_first room (Live added) packed.front_within packed.front;
       front_within = (let before = packed.front_within in omega (arith, length-append room (Live added ∷ [])));
-      counted = (let before = kept.counted in let after = ap length added-entries in omega (arith, length-append (entries_in ss) (entry_of added ∷ [])));
+      counted = (let before = kept.counted in let after = ap length added-entries in omega (arith, length-append (entries_in ss) (added ∷ [])));
     }

@@ -1,7 +1,9 @@
 pub mod AnswerLemmas
 pub mod CopyLemmas
+pub mod HeadLemmas
 pub mod IndexLemmas
 pub mod KeptLemmas
+pub mod PackLemmas
 pub mod PlaceLemmas
 pub mod RepackLemmas
 pub mod SlotLemmas

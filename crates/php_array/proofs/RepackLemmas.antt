@@ -9,11 +9,10 @@ use Rattle.php_entries.specs.Listing.{Entry}
 use Rattle.php_entries.specs.Soundness.{AreKeysDistinct}
 use Rattle.php_array.specs.Index.{IsIndexed}
 use Rattle.php_array.specs.Kept.{IsStored, IsRepacked}
-use Rattle.php_array.specs.Slots.{serial_of, is_live, stored_at, entry_of, entries_in, place_of, live_place, DoSerialsRise, AreHoles, HoldsSame}
+use Rattle.php_array.specs.Slots.{serial_of, is_live, stored_at, entries_in, place_of, live_place, DoSerialsRise, AreHoles, HoldsSame}
 use Rattle.php_array.specs.declared.key_index.KeyIndex.{KeyIndex}
 use Rattle.php_array.specs.declared.key_index.KeyIndex.TheVariants.{Packed}
-use Rattle.php_array.specs.declared.slot.Slot.{Slot}
-use Rattle.php_array.specs.declared.slot.Slot.TheVariants.{Hole, Live}
+use Rattle.php_array.specs.Slot.{Slot, Hole, Live}
 use Rattle.php_array.proofs.IndexLemmas.{IsIndexed-HoldsSame}
 
 is_some-map : (o : Option ℕ) → is_some (option_map (λ i. suc i) o) ≡ is_some o
@@ -37,7 +36,7 @@ module _ {T : Type 0} where
   pub live-entries : (ss : List (Slot T)) → entries_in (filter is_live ss) ≡ entries_in ss
   live-entries [] = refl
   live-entries (Hole n ∷ ss) = live-entries ss
-  live-entries (Live e ∷ ss) = ap (λ (es : List (Entry T)). entry_of e ∷ es) (live-entries ss)
+  live-entries (Live e ∷ ss) = ap (λ (es : List (Entry T)). e ∷ es) (live-entries ss)
 
   pub live-place : (k : Key) (ss : List (Slot T)) → is_some (place_of k (filter is_live ss)) ≡ is_some (place_of k ss)
   live-place k [] = refl

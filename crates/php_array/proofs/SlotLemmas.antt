@@ -1,6 +1,6 @@
 -- What slots hold, before and after a change of one of them.
 use Rattle.std.proofs.Common.{◌≡◌, ◌<◌, ◌≤◌, inl, inr, ℕ, zero, suc, ◌+◌, List, [], ◌∷◌, ◌++◌, length, take, drop, refl, sym, ◌∙◌, ap, subst, arith, Some, None, append-nil}
-use Rattle.std.specs.Prelude.{Bool, true, false, cond, Option, option_map, is_some, find, option_to_list}
+use Rattle.std.specs.Prelude.{Bool, true, false, cond, Option, option_map, is_some, find, IfNone, IfSome}
 use Rattle.std.proofs.lemmas.Bool.{cases_Bool}
 use Rattle.php_value.specs.declared.key.Key.{Key}
 use Rattle.php_entries.specs.Keys.{key_eq}
@@ -8,10 +8,8 @@ use Rattle.php_entries.specs.Listing.{Entry}
 use Rattle.php_entries.specs.Changes.{with_value, without_key}
 use Rattle.php_entries.specs.Soundness.{HasNoKey, AreKeysDistinct}
 use Rattle.php_entries.proofs.KeyLemmas.{key_eq-true, key_eq-self, key_eq-sym_false}
-use Rattle.php_array.specs.Slots.{serial_of, stored_in, stored_at, serial_at, entry_of, entries_in, place_of, vacated, revalued, with_value_at, DoSerialsRise, AreHoles, HoldsSame}
-use Rattle.php_array.specs.declared.slot.Slot.{Slot}
-use Rattle.php_array.specs.declared.slot.Slot.TheVariants.{Hole, Live}
-use Rattle.php_array.specs.declared.slot.Stored.{Stored}
+use Rattle.php_array.specs.Slots.{serial_of, stored_in, stored_at, serial_at, entries_in, place_of, vacated, revalued, with_value_at, DoSerialsRise, AreHoles, HoldsSame}
+use Rattle.php_array.specs.Slot.{Slot, Hole, Live, slot_of}
 
 suc_some : (o : Option ℕ) (i : ℕ) → option_map (λ i. suc i) o ≡ Some i → (j : ℕ) × (o ≡ Some j) × (i ≡ suc j)
 suc_some None i e = cc
@@ -32,17 +30,17 @@ module _ {T : Type 0} where
   pub entries_in-append : (xs ys : List (Slot T)) → entries_in (xs ++ ys) ≡ entries_in xs ++ entries_in ys
   entries_in-append [] ys = refl
   entries_in-append (Hole n ∷ xs) ys = entries_in-append xs ys
-  entries_in-append (Live e ∷ xs) ys = ap (λ (es : List (Entry T)). entry_of e ∷ es) (entries_in-append xs ys)
+  entries_in-append (Live e ∷ xs) ys = ap (λ (es : List (Entry T)). e ∷ es) (entries_in-append xs ys)
 
   -- where a key's slot is not the first, it is one further than in the rest
-  place_behind : (k : Key) (e : Stored T) (ss : List (Slot T)) → key_eq k e.key ≡ false → place_of k (Live e ∷ ss) ≡ option_map (λ i. suc i) (place_of k ss)
+  place_behind : (k : Key) (e : Entry T) (ss : List (Slot T)) → key_eq k e.key ≡ false → place_of k (Live e ∷ ss) ≡ option_map (λ i. suc i) (place_of k ss)
   place_behind k e ss apart = ap (λ (b : Bool). cond b (Some 0) (option_map (λ i. suc i) (place_of k ss))) apart
 
-  place_first : (k : Key) (e : Stored T) (ss : List (Slot T)) → key_eq k e.key ≡ true → place_of k (Live e ∷ ss) ≡ Some 0
+  place_first : (k : Key) (e : Entry T) (ss : List (Slot T)) → key_eq k e.key ≡ true → place_of k (Live e ∷ ss) ≡ Some 0
   place_first k e ss same = ap (λ (b : Bool). cond b (Some 0) (option_map (λ i. suc i) (place_of k ss))) same
 
   -- at a key's place an entry with this key is stored
-  pub place_of-stored : (k : Key) (ss : List (Slot T)) (i : ℕ) → place_of k ss ≡ Some i → (e : Stored T) × (stored_at i ss ≡ Some e) × (e.key ≡ k)
+  pub place_of-stored : (k : Key) (ss : List (Slot T)) (i : ℕ) → place_of k ss ≡ Some i → (e : Entry T) × (stored_at i ss ≡ Some e) × (e.key ≡ k)
   place_of-stored k [] i is = cc
   place_of-stored k (Hole n ∷ ss) i is =
       let j = suc_some (place_of k ss) i is in
@@ -67,7 +65,7 @@ module _ {T : Type 0} where
       elim (cases_Bool (key_eq k e.key)) [
         | inl same ↦ (let bad = sym (place_first k e ss same) ∙ none in cc)
         | inr apart ↦
-            ap (λ (b : Bool). cond b (Some (entry_of e)) (find (λ (x : Entry T). key_eq k x.key) (entries_in ss))) apart
+            ap (λ (b : Bool). cond b (Some e) (find (λ (x : Entry T). key_eq k x.key) (entries_in ss))) apart
             ∙ place_of-none k ss (suc_none (place_of k ss) (sym (place_behind k e ss apart) ∙ none))
       ]
 
@@ -87,7 +85,7 @@ module _ {T : Type 0} where
       ]
 
   -- the entry of a key is the one that is stored at its place
-  pub place_of-find : (k : Key) (ss : List (Slot T)) (i : ℕ) (e : Stored T) → place_of k ss ≡ Some i → stored_at i ss ≡ Some e → find (λ (x : Entry T). key_eq k x.key) (entries_in ss) ≡ Some (entry_of e)
+  pub place_of-find : (k : Key) (ss : List (Slot T)) (i : ℕ) (e : Entry T) → place_of k ss ≡ Some i → stored_at i ss ≡ Some e → find (λ (x : Entry T). key_eq k x.key) (entries_in ss) ≡ Some e
   place_of-find k [] i e is there = cc
   place_of-find k (Hole n ∷ ss) i e is there =
       let j = suc_some (place_of k ss) i is in
@@ -98,20 +96,20 @@ module _ {T : Type 0} where
             let zero_is = zero_some i (sym (place_first k x ss same) ∙ is) in
             let here : Some x ≡ Some e = ap (λ m. stored_at m (Live x ∷ ss)) zero_is ∙ there in
             let is_e : x ≡ e = cc in
-            ap (λ (b : Bool). cond b (Some (entry_of x)) (find (λ (y : Entry T). key_eq k y.key) (entries_in ss))) same ∙ ap (λ (y : Stored T). Some (entry_of y)) is_e)
+            ap (λ (b : Bool). cond b (Some x) (find (λ (y : Entry T). key_eq k y.key) (entries_in ss))) same ∙ ap (λ (y : Entry T). Some y) is_e)
         | inr apart ↦ (
             let j = suc_some (place_of k ss) i (sym (place_behind k x ss apart) ∙ is) in
-            ap (λ (b : Bool). cond b (Some (entry_of x)) (find (λ (y : Entry T). key_eq k y.key) (entries_in ss))) apart
+            ap (λ (b : Bool). cond b (Some x) (find (λ (y : Entry T). key_eq k y.key) (entries_in ss))) apart
             ∙ place_of-find k ss j.0 e j.1 (ap (λ m. stored_at m (Live x ∷ ss)) (sym j.2) ∙ there))
       ]
 
   -- an entry that is stored at a place has that place
-  pub stored-place_of : (ss : List (Slot T)) (i : ℕ) (e : Stored T) → AreKeysDistinct (entries_in ss) → stored_at i ss ≡ Some e → place_of e.key ss ≡ Some i
+  pub stored-place_of : (ss : List (Slot T)) (i : ℕ) (e : Entry T) → AreKeysDistinct (entries_in ss) → stored_at i ss ≡ Some e → place_of e.key ss ≡ Some i
   stored-place_of [] i e distinct there = cc
   stored-place_of (Hole n ∷ ss) zero e distinct there = cc
   stored-place_of (Live x ∷ ss) zero e distinct there =
       let same : x ≡ e = cc in
-      ap (λ (y : Stored T). place_of y.key (Live x ∷ ss)) (sym same) ∙ place_first x.key x ss (key_eq-self x.key)
+      ap (λ (y : Entry T). place_of y.key (Live x ∷ ss)) (sym same) ∙ place_first x.key x ss (key_eq-self x.key)
   stored-place_of (Hole n ∷ ss) (suc i) e distinct there = ap (option_map (λ i. suc i)) (stored-place_of ss i e distinct there)
   stored-place_of (Live x ∷ ss) (suc i) e distinct there =
       let rest = stored-place_of ss i e distinct.1 there in
@@ -125,7 +123,7 @@ module _ {T : Type 0} where
       ]
 
   -- one more slot at the end
-  pub place_of-push : (q : Key) (ss : List (Slot T)) (e : Stored T) → place_of e.key ss ≡ None → place_of q (ss ++ Live e ∷ []) ≡ cond (key_eq e.key q) (Some (length ss)) (place_of q ss)
+  pub place_of-push : (q : Key) (ss : List (Slot T)) (e : Entry T) → place_of e.key ss ≡ None → place_of q (ss ++ Live e ∷ []) ≡ cond (key_eq e.key q) (Some (length ss)) (place_of q ss)
   place_of-push q [] e none =
       elim (cases_Bool (key_eq e.key q)) [
         | inl same ↦ place_first q e [] (ap (key_eq q) (key_eq-true e.key q same) ∙ key_eq-self q) ∙ sym (ap (λ (b : Bool). cond b (Some 0) None) same)
@@ -215,16 +213,16 @@ module _ {T : Type 0} where
         | inl same ↦ (
             let zero_is = zero_some i (sym (place_first k e ss same) ∙ is) in
             ap (λ m. entries_in (vacated m (Live e ∷ ss))) (sym zero_is)
-            ∙ sym (ap (λ (b : Bool). cond b (entries_in ss) (entry_of e ∷ without_key k (entries_in ss))) same))
+            ∙ sym (ap (λ (b : Bool). cond b (entries_in ss) (e ∷ without_key k (entries_in ss))) same))
         | inr apart ↦ (
             let j = suc_some (place_of k ss) i (sym (place_behind k e ss apart) ∙ is) in
             ap (λ m. entries_in (vacated m (Live e ∷ ss))) j.2
-            ∙ ap (λ (es : List (Entry T)). entry_of e ∷ es) (entries_in-vacated k ss j.0 j.1)
-            ∙ sym (ap (λ (b : Bool). cond b (entries_in ss) (entry_of e ∷ without_key k (entries_in ss))) apart))
+            ∙ ap (λ (es : List (Entry T)). e ∷ es) (entries_in-vacated k ss j.0 j.1)
+            ∙ sym (ap (λ (b : Bool). cond b (entries_in ss) (e ∷ without_key k (entries_in ss))) apart))
       ]
 
   -- one entry fewer
-  pub length-vacated : (ss : List (Slot T)) (i : ℕ) (e : Stored T) → stored_at i ss ≡ Some e → length (entries_in ss) ≡ suc (length (entries_in (vacated i ss)))
+  pub length-vacated : (ss : List (Slot T)) (i : ℕ) (e : Entry T) → stored_at i ss ≡ Some e → length (entries_in ss) ≡ suc (length (entries_in (vacated i ss)))
   length-vacated [] i e there = cc
   length-vacated (Hole n ∷ ss) zero e there = cc
   length-vacated (Live x ∷ ss) zero e there = refl
@@ -274,12 +272,12 @@ module _ {T : Type 0} where
         | inl same ↦ (
             let zero_is = zero_some i (sym (place_first k e ss same) ∙ is) in
             ap (λ m. entries_in (with_value_at m v (Live e ∷ ss))) (sym zero_is)
-            ∙ sym (ap (λ (b : Bool). cond b (record (entry_of e) { value = v } ∷ entries_in ss) (entry_of e ∷ with_value k v (entries_in ss))) same))
+            ∙ sym (ap (λ (b : Bool). cond b (record e { value = v } ∷ entries_in ss) (e ∷ with_value k v (entries_in ss))) same))
         | inr apart ↦ (
             let j = suc_some (place_of k ss) i (sym (place_behind k e ss apart) ∙ is) in
             ap (λ m. entries_in (with_value_at m v (Live e ∷ ss))) j.2
-            ∙ ap (λ (es : List (Entry T)). entry_of e ∷ es) (entries_in-with_value_at k v ss j.0 j.1)
-            ∙ sym (ap (λ (b : Bool). cond b (record (entry_of e) { value = v } ∷ entries_in ss) (entry_of e ∷ with_value k v (entries_in ss))) apart))
+            ∙ ap (λ (es : List (Entry T)). e ∷ es) (entries_in-with_value_at k v ss j.0 j.1)
+            ∙ sym (ap (λ (b : Bool). cond b (record e { value = v } ∷ entries_in ss) (e ∷ with_value k v (entries_in ss))) apart))
       ]
 
   pub length_slots-with_value_at : (i : ℕ) (v : T) (ss : List (Slot T)) → length (with_value_at i v ss) ≡ length ss
@@ -342,7 +340,7 @@ module _ {T : Type 0} where
   entries_in-hole : (ss : List (Slot T)) (n : ℕ) → entries_in ss ≡ entries_in (ss ++ Hole n ∷ [])
   entries_in-hole [] n = refl
   entries_in-hole (Hole m ∷ ss) n = entries_in-hole ss n
-  entries_in-hole (Live e ∷ ss) n = ap (λ (es : List (Entry T)). entry_of e ∷ es) (entries_in-hole ss n)
+  entries_in-hole (Live e ∷ ss) n = ap (λ (es : List (Entry T)). e ∷ es) (entries_in-hole ss n)
 
   place_of-hole : (k : Key) (ss : List (Slot T)) (n : ℕ) → place_of k ss ≡ place_of k (ss ++ Hole n ∷ [])
   place_of-hole k [] n = refl
@@ -379,10 +377,10 @@ module _ {T : Type 0} where
   }
 
   -- the slots behind a place
-  pub drop-live : (i : ℕ) (ss : List (Slot T)) (e : Stored T) → stored_at i ss ≡ Some e → entries_in (drop i ss) ≡ entry_of e ∷ entries_in (drop (suc i) ss)
+  pub drop-live : (i : ℕ) (ss : List (Slot T)) (e : Entry T) → stored_at i ss ≡ Some e → entries_in (drop i ss) ≡ e ∷ entries_in (drop (suc i) ss)
   drop-live i [] e there = cc
   drop-live zero (Hole n ∷ ss) e there = cc
-  drop-live zero (Live x ∷ ss) e there = let same : x ≡ e = cc in ap (λ (y : Stored T). entry_of y ∷ entries_in ss) same
+  drop-live zero (Live x ∷ ss) e there = let same : x ≡ e = cc in ap (λ (y : Entry T). y ∷ entries_in ss) same
   drop-live (suc i) (s ∷ ss) e there = drop-live i ss e there
 
   pub drop-hole : (i : ℕ) (ss : List (Slot T)) → stored_at i ss ≡ None → entries_in (drop (suc i) ss) ≡ entries_in (drop i ss)
@@ -423,9 +421,10 @@ module _ {T : Type 0} where
   serial_at-rise from (s ∷ ss) to (suc i) (suc j) h le within = serial_at-rise (serial_of s) ss to i j h.2 (omega arith) (omega arith)
 
   -- a slot that is dropped from the end, where the last one is a hole
-  pub HoldsSame-pop : (first old new : List (Slot T)) (o : Option (Slot T)) → HoldsSame first old → old ≡ new ++ option_to_list o → ((front : List (Slot T)) (last : Slot T) → old ≡ front ++ last ∷ [] → stored_in last ≡ None) → HoldsSame first new
-  HoldsSame-pop first old new None h split hole = subst (λ (ss : List (Slot T)). HoldsSame first ss) (split ∙ append-nil new) h
-  HoldsSame-pop first old new (Some s) h split hole =
+  pub HoldsSame-pop : (first old new : List (Slot T)) (o : Option (ℕ × Key × (Option T))) → HoldsSame first old → IfNone o ((old ≡ []) × (new ≡ [])) → IfSome o (λ r. old ≡ new ++ slot_of r.0 r.1 r.2 ∷ []) → ((front : List (Slot T)) (last : Slot T) → old ≡ front ++ last ∷ [] → stored_in last ≡ None) → HoldsSame first new
+  HoldsSame-pop first old new None h none split hole = subst (λ (ss : List (Slot T)). HoldsSame first ss) (none.0 ∙ sym none.1) h
+  HoldsSame-pop first old new (Some r) h none split hole =
+      let s = slot_of r.0 r.1 r.2 in
       HoldsSame-trans first (new ++ s ∷ []) new (subst (λ (ss : List (Slot T)). HoldsSame first ss) split h) (HoldsSame-hole new s (hole new s split))
 
   pub HoldsSame-step : (first old new : List (Slot T)) (s : Slot T) → HoldsSame first old → old ≡ new ++ s ∷ [] → stored_in s ≡ None → HoldsSame first new
@@ -440,10 +439,10 @@ module _ {T : Type 0} where
   serials_behind ss to middle serial rise h i above within = let order = serial_at-rise 0 ss to middle i rise above within in omega arith
 
   -- the slots before a place
-  take-live : (i : ℕ) (ss : List (Slot T)) (e : Stored T) → stored_at i ss ≡ Some e → (take (suc i) ss ≡ take i ss ++ Live e ∷ []) × (length (take i ss) ≡ i)
+  take-live : (i : ℕ) (ss : List (Slot T)) (e : Entry T) → stored_at i ss ≡ Some e → (take (suc i) ss ≡ take i ss ++ Live e ∷ []) × (length (take i ss) ≡ i)
   take-live i [] e there = cc
   take-live zero (Hole n ∷ ss) e there = cc
-  take-live zero (Live x ∷ ss) e there = let same : x ≡ e = cc in (ap (λ (y : Stored T). Live y ∷ []) same, refl)
+  take-live zero (Live x ∷ ss) e there = let same : x ≡ e = cc in (ap (λ (y : Entry T). Live y ∷ []) same, refl)
   take-live (suc i) (s ∷ ss) e there = let r = take-live i ss e there in (ap (λ (rest : List (Slot T)). s ∷ rest) r.0, ap (λ n. suc n) r.1)
 
   pub place_of-take_hole : (q : Key) (i : ℕ) (ss : List (Slot T)) → stored_at i ss ≡ None → place_of q (take (suc i) ss) ≡ place_of q (take i ss)
@@ -469,7 +468,7 @@ module _ {T : Type 0} where
             ∙ ap (option_map (λ i. suc i)) (place_of-before k ss j.0 j.1))
       ]
 
-  pub place_of-take_live : (q : Key) (i : ℕ) (ss : List (Slot T)) (e : Stored T) → AreKeysDistinct (entries_in ss) → stored_at i ss ≡ Some e → place_of q (take (suc i) ss) ≡ cond (key_eq e.key q) (Some i) (place_of q (take i ss))
+  pub place_of-take_live : (q : Key) (i : ℕ) (ss : List (Slot T)) (e : Entry T) → AreKeysDistinct (entries_in ss) → stored_at i ss ≡ Some e → place_of q (take (suc i) ss) ≡ cond (key_eq e.key q) (Some i) (place_of q (take i ss))
   place_of-take_live q i ss e distinct there =
       let split = take-live i ss e there in
       let before = place_of-before e.key ss i (stored-place_of ss i e distinct there) in

@@ -5,7 +5,7 @@ use Rattle.php_value.specs.declared.key.Key.{Key}
 use Rattle.php_value.specs.declared.key.Key.TheVariants.{Int, Str}
 use Rattle.php_entries.specs.Keys.{key_eq}
 use Rattle.php_array.specs.Slots.{place_of, live_place}
-use Rattle.php_array.specs.declared.slot.Slot.{Slot}
+use Rattle.php_array.specs.Slot.{Slot}
 use Rattle.php_array.specs.declared.key_index.KeyIndex.{KeyIndex}
 use Rattle.php_array.specs.declared.key_index.KeyIndex.TheVariants.{Packed, Hashed}
 

@@ -5,7 +5,7 @@ use Rattle.php_entries.specs.Soundness.{IsSound, AreKeysDistinct}
 use Rattle.php_array.specs.Index.{IsIndexed}
 use Rattle.php_array.specs.Slots.{entries_in, DoSerialsRise, AreHoles}
 use Rattle.php_array.specs.declared.key_index.KeyIndex.{KeyIndex}
-use Rattle.php_array.specs.declared.slot.Slot.{Slot}
+use Rattle.php_array.specs.Slot.{Slot}
 
 module _ {T : Type 0} where
   -- the array that the slots show

@@ -3,23 +3,18 @@ use Rattle.std.specs.Prelude.{ℕ, zero, suc, ◌≡◌, ◌<◌, Bool, true, fa
 use Rattle.php_value.specs.declared.key.Key.{Key}
 use Rattle.php_entries.specs.Keys.{key_eq}
 use Rattle.php_entries.specs.Listing.{Entry}
-use Rattle.php_array.specs.declared.slot.Slot.{Slot}
-use Rattle.php_array.specs.declared.slot.Slot.TheVariants.{Hole, Live}
-use Rattle.php_array.specs.declared.slot.Stored.{Stored}
+use Rattle.php_array.specs.Slot.{Slot, SlotList, Hole, Live}
 
 module _ {T : Type 0} where
   abbrev pub serial_of : Slot T → ℕ
   serial_of (Hole serial) = serial
   serial_of (Live e) = e.serial
 
-  abbrev pub entry_of : Stored T → Entry T
-  entry_of e = record { serial = e.serial; key = e.key; value = e.value }
-
   -- the entries that the slots hold, in their order
   abbrev pub entries_in : List (Slot T) → List (Entry T)
   entries_in [] = []
   entries_in (Hole serial ∷ slots) = entries_in slots
-  entries_in (Live e ∷ slots) = entry_of e ∷ entries_in slots
+  entries_in (Live e ∷ slots) = e ∷ entries_in slots
 
   -- the place of the slot with this key
   abbrev pub place_of : Key → List (Slot T) → Option ℕ
@@ -55,16 +50,20 @@ module _ {T : Type 0} where
   with_value_at zero v (s ∷ slots) = revalued v s ∷ slots
   with_value_at (suc i) v (s ∷ slots) = s ∷ with_value_at i v slots
 
+  -- the same slots, with another value at a place
+  abbrev pub with_value_in : ℕ → T → SlotList T → SlotList T
+  with_value_in i v slots = record { items = with_value_at i v slots.items; room = slots.room }
+
   abbrev pub is_live : Slot T → Bool
   is_live (Hole serial) = false
   is_live (Live e) = true
 
-  abbrev pub stored_in : Slot T → Option (Stored T)
+  abbrev pub stored_in : Slot T → Option (Entry T)
   stored_in (Hole serial) = None
   stored_in (Live e) = Some e
 
   -- the entry that is stored at a place
-  abbrev pub stored_at : ℕ → List (Slot T) → Option (Stored T)
+  abbrev pub stored_at : ℕ → List (Slot T) → Option (Entry T)
   stored_at i [] = None
   stored_at zero (s ∷ slots) = stored_in s
   stored_at (suc i) (s ∷ slots) = stored_at i slots

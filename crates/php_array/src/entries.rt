@@ -7,15 +7,13 @@ ghost use Rattle.php_entries.specs.Changes.{Grown, Full, Limit, with_entry, with
 ghost use Rattle.php_entries.specs.Soundness.{IsSound};
 ghost use Rattle.php_array.specs.Answers.{unset_value, unappended_value, shown_entry, key_and_value, with_serial};
 
-use crate::indexing::{find_live, find_stored, index_entry};
+use crate::indexing::{find_live, find_value, index_entry, vacate};
 use crate::key_index::KeyIndex;
 use crate::keys::{int_key, key_above, key_without, next_int, share_key};
-use crate::places::{
-    next_stored, pop_stored, set_slot_value, slots_through, slots_through_near, vacate,
-};
+use crate::places::{next_stored, pop_stored, slots_through, slots_through_near};
 use crate::refusal::{NoAppend, NoSet};
 use crate::repack::{make_room, settle};
-use crate::slot::{Slot, Stored};
+use crate::slots::Slots;
 use php_base::{Ledger, NoMemory};
 use php_value::Key;
 use std::alloc::Global;
@@ -34,7 +32,7 @@ const KEY_LIMIT: u64 = 9_223_372_036_854_775_808;
 #[derive(Drop)]
 pub struct Entries<T> {
     index: KeyIndex,
-    slots: Vec<Slot<T>>,
+    slots: Slots<T>,
     // Before this place there are only holes.
     first: usize,
     count: usize,
@@ -63,7 +61,7 @@ impl<T: Drop> Entries<T> {
     {
         Entries {
             index: KeyIndex::Packed(0),
-            slots: Vec::new(alloc),
+            slots: Slots::new(alloc),
             first: 0,
             count: 0,
             next_key: 0,
@@ -90,10 +88,7 @@ impl<T: Drop> Entries<T> {
     pub fn get(&self, key: &Key) -> Option<&T>
         ensures { option_copied result ≡ value_at self.now key.now }
     {
-        match find_stored(&self.index, &self.slots, key) {
-            Some(stored) => Some(stored.value()),
-            None => None,
-        }
+        find_value(&self.index, &self.slots, key)
     }
 
     /// The value under a key, to be written. What is written there last is the value under the key
@@ -105,7 +100,7 @@ impl<T: Drop> Entries<T> {
             set_value self.old key.now v ≡ Grown (with_value_under self.old key.now v) }
     {
         let place = find_live(&self.index, &self.slots, key)?;
-        Some(self.slots[place].value_mut())
+        Some(self.slots.value_mut(place))
     }
 
     /// Puts another value in place of the one under a key, and gives that back. Where no entry has
@@ -117,7 +112,7 @@ impl<T: Drop> Entries<T> {
         ensures err { OnErr result (self.new ≡ self.old) }
     {
         match find_live(&self.index, &self.slots, key) {
-            Some(place) => Ok(set_slot_value(&mut self.slots, place, value)),
+            Some(place) => Ok(self.slots.set_value(place, value)),
             None => Err(value),
         }
     }
@@ -192,10 +187,10 @@ impl<T: Drop> Entries<T> {
             return None;
         };
         self.index.forget(key);
-        let stored = vacate(&mut self.slots, place);
+        let value = vacate(&self.index, &mut self.slots, place);
         self.count -= 1;
         self.first = settle(&mut self.index, &mut self.slots, self.first, self.count);
-        Some(stored.into_value())
+        Some(value)
     }
 
     /// Takes the last entry out. Where its key is the int that was given out last, that key is the
@@ -204,15 +199,15 @@ impl<T: Drop> Entries<T> {
         ensures entry { result ≡ option_map key_and_value (last_of self.old.entries) }
         ensures after { self.new ≡ pop_entry self.old }
     {
-        let Some(stored) = pop_stored(&mut self.slots) else {
+        let Some((_, key, value)) = pop_stored(&mut self.slots) else {
             self.first = 0;
             return None;
         };
-        self.index.forget(&stored.key);
-        self.next_key = key_without(&stored.key, self.next_key);
+        self.index.forget(&key);
+        self.next_key = key_without(&key, self.next_key);
         self.count -= 1;
         self.first = settle(&mut self.index, &mut self.slots, self.first, self.count);
-        Some(stored.into_key_and_value())
+        Some((key, value))
     }
 
     /// The first entry that was made after the one with this serial, 0 for the first of all: its
@@ -222,7 +217,7 @@ impl<T: Drop> Entries<T> {
     {
         let place = slots_through(&self.slots, serial).max(self.first);
         match next_stored(&self.slots, place) {
-            Some((_, stored)) => Some(stored.shown()),
+            Some((_, entry)) => Some(entry),
             None => None,
         }
     }
@@ -235,9 +230,9 @@ impl<T: Drop> Entries<T> {
     {
         let from = slots_through_near(&self.slots, serial, *place).max(self.first);
         match next_stored(&self.slots, from) {
-            Some((at, stored)) => {
+            Some((at, entry)) => {
                 *place = at;
-                Some(stored.shown())
+                Some(entry)
             }
             None => None,
         }
@@ -255,14 +250,14 @@ impl<T: Drop> Entries<T> {
         ensures not_made { OnErr result (ledger.new ≡ ledger.old) }
     {
         let made = values.len() as u64;
-        let mut copy = Entries::new(*self.slots.allocator());
+        let mut copy = Entries::new(self.slots.allocator());
         let mut place = self.first;
         for value in values {
-            let Some((at, stored)) = next_stored(&self.slots, place) else {
+            let Some((at, entry)) = next_stored(&self.slots, place) else {
                 unreachable!();
             };
-            let key = share_key(&stored.key)?;
-            let Ok(()) = copy.add(stored.serial, key, value) else {
+            let key = share_key(entry.1)?;
+            let Ok(()) = copy.add(entry.0, key, value) else {
                 return Err(NoMemory);
             };
             place = at + 1;
@@ -316,8 +311,7 @@ impl<T: Drop> Entries<T> {
         self.next_key = key_above(&key, self.next_key);
         self.next_serial = serial + 1;
         self.count += 1;
-        self.slots
-            .push_reserved(Slot::Live(Stored { serial, key, value }));
+        self.slots.push_reserved(serial, key, value);
         Ok(())
     }
 }

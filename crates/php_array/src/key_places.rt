@@ -6,8 +6,7 @@ ghost use Rattle.php_array.specs.Index.{place_in, SetsPlace};
 ghost use Rattle.php_array.specs.Slots.{entries_in, place_of};
 
 use crate::keys::share_key;
-use crate::places::stored_slot;
-use crate::slot::Slot;
+use crate::slots::Slots;
 use indexmap::IndexMap;
 use php_base::NoMemory;
 use php_value::Key;
@@ -52,30 +51,30 @@ pub fn move_place(places: &mut IndexMap<Key, usize>, key: &Key, place: usize)
 }
 
 /// The places of all keys, where no two entries have one key.
-pub fn collect_places<T>(slots: &Vec<Slot<T>>) -> Result<IndexMap<Key, usize>, NoMemory>
+pub fn collect_places<T>(slots: &Slots<T>) -> Result<IndexMap<Key, usize>, NoMemory>
     requires { AreKeysDistinct (entries_in slots.now.items) }
     ensures { IfOk result (λ places. (k : Key) →
         place_in places.entries k ≡ place_of k slots.now.items) }
 {
-    let mut places = IndexMap::with_capacity(*slots.allocator(), slots.len())?;
+    let mut places = IndexMap::with_capacity(slots.allocator(), slots.len())?;
     for place in 0..slots.len() {
-        if let Some(stored) = stored_slot(slots, place) {
-            insert_place(&mut places, &stored.key, place)?;
+        if let Some(entry) = slots.entry(place) {
+            insert_place(&mut places, entry.1, place)?;
         }
     }
     Ok(places)
 }
 
 /// Puts the keys' present places in. The keys are the same.
-pub fn renew_places<T>(places: &mut IndexMap<Key, usize>, slots: &Vec<Slot<T>>)
+pub fn renew_places<T>(places: &mut IndexMap<Key, usize>, slots: &Slots<T>)
     requires distinct { AreKeysDistinct (entries_in slots.now.items) }
     requires same_keys { (k : Key) →
         is_some (place_in places.old.entries k) ≡ is_some (place_of k slots.now.items) }
     ensures { (k : Key) → place_in places.new.entries k ≡ place_of k slots.now.items }
 {
     for place in 0..slots.len() {
-        if let Some(stored) = stored_slot(slots, place) {
-            move_place(places, &stored.key, place);
+        if let Some(entry) = slots.entry(place) {
+            move_place(places, entry.1, place);
         }
     }
 }

@@ -10,7 +10,7 @@ mod packed;
 mod places;
 mod refusal;
 mod repack;
-mod slot;
+mod slots;
 
 pub use entries::Entries;
 pub use refusal::{NoAppend, NoSet};

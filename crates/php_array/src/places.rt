@@ -1,70 +1,24 @@
 // Work on the slots of an array, by their places.
-ghost use Rattle.std.specs.Prelude.{◌≡◌, ℕ, ◌+◌, ◌<◌, ◌≤◌, List, [], ◌∷◌, ◌++◌, drop, IsTrue, IsSome, IfSome, IfNone, Some, None, option_copied, option_map, vec_len};
-ghost use Rattle.php_array.specs.Slots.{serial_at, stored_in, stored_at, entry_of, entries_in, vacated, with_value_at, AreHoles, DoSerialsRise, HoldsSame};
-ghost use Rattle.php_array.specs.declared.slot.Slot.{Slot};
-ghost use Rattle.php_array.specs.declared.slot.Slot.TheVariants.{Live};
+ghost use Rattle.std.specs.Prelude.{◌≡◌, ℕ, ◌+◌, ◌-◌, ◌^◌, ◌<◌, ◌≤◌, List, [], ◌∷◌, ◌++◌, drop, length, IsTrue, IfSome, IfNone, Some, None};
+ghost use Rattle.php_array.specs.Answers.{shown_entry};
+ghost use Rattle.php_array.specs.Slot.{Slot, Live, slot_of};
+ghost use Rattle.php_array.specs.Slots.{serial_at, stored_in, stored_at, entries_in, AreHoles, DoSerialsRise, HoldsSame};
 
-use crate::slot::{Slot, Stored};
-use std::mem;
-
-/// The entry at a place.
-pub fn stored_slot<T>(slots: &Vec<Slot<T>>, place: usize) -> Option<&Stored<T>>
-    ensures { option_copied result ≡ stored_at place slots.now.items }
-{
-    if place < slots.len() {
-        slots[place].stored()
-    } else {
-        None
-    }
-}
-
-/// The serial of the slot at a place.
-pub fn slot_serial<T>(slots: &Vec<Slot<T>>, place: usize) -> u64
-    requires { place < vec_len slots.now }
-    ensures { result ≡ serial_at place slots.now.items }
-{
-    slots[place].serial()
-}
-
-/// Takes the entry at a place out, and leaves a hole.
-pub fn vacate<T: Drop>(slots: &mut Vec<Slot<T>>, place: usize) -> Stored<T>
-    requires { IsSome (stored_at place slots.old.items) }
-    ensures stored { stored_at place slots.old.items ≡ Some result }
-    ensures after { slots.new.items ≡ vacated place slots.old.items }
-{
-    let serial = slots[place].serial();
-    match mem::replace(&mut slots[place], Slot::Hole(serial)) {
-        Slot::Live(stored) => stored,
-        Slot::Hole(_) => unreachable!(),
-    }
-}
-
-/// Puts another value in place of the one at a place, and gives that back.
-pub fn set_slot_value<T>(slots: &mut Vec<Slot<T>>, place: usize, value: T) -> T
-    requires { IsSome (stored_at place slots.old.items) }
-    ensures old { option_map (λ e. e.value) (stored_at place slots.old.items) ≡ Some result }
-    ensures after { slots.new.items ≡ with_value_at place value slots.old.items }
-{
-    match &mut slots[place] {
-        Slot::Live(stored) => mem::replace(&mut stored.value, value),
-        Slot::Hole(_) => unreachable!(),
-    }
-}
+use crate::slots::Slots;
+use php_value::Key;
 
 /// Whether the last slot is a hole.
-fn ends_in_hole<T>(slots: &Vec<Slot<T>>) -> bool
-    ensures some { IsTrue result → 0 < vec_len slots.now }
+fn ends_in_hole<T>(slots: &Slots<T>) -> bool
+    ensures some { IsTrue result → 0 < length slots.now.items }
     ensures hole { IsTrue result → (front : List (Slot T)) (last : Slot T) →
         slots.now.items ≡ front ++ last ∷ [] → stored_in last ≡ None }
 {
-    match slots.as_slice().last() {
-        Some(slot) => slot.stored().is_none(),
-        None => false,
-    }
+    let len = slots.len();
+    len > 0 && !slots.is_live(len - 1)
 }
 
 /// Drops the holes behind the last entry.
-pub fn trim<T: Drop>(slots: &mut Vec<Slot<T>>)
+pub fn trim<T: Drop>(slots: &mut Slots<T>)
     ensures { HoldsSame slots.old.items slots.new.items }
 {
     while ends_in_hole(slots) {
@@ -73,59 +27,61 @@ pub fn trim<T: Drop>(slots: &mut Vec<Slot<T>>)
 }
 
 /// Takes the last entry out, and the holes behind it.
-pub fn pop_stored<T: Drop>(slots: &mut Vec<Slot<T>>) -> Option<Stored<T>>
+pub fn pop_stored<T: Drop>(slots: &mut Slots<T>) -> Option<(u64, Key, T)>
     ensures none { IfNone result (entries_in slots.old.items ≡ []) }
     ensures none_left { IfNone result (HoldsSame slots.old.items slots.new.items) }
-    ensures some { IfSome result (λ e. HoldsSame slots.old.items (slots.new.items ++ Live e ∷ [])) }
+    ensures some { IfSome result (λ r.
+        HoldsSame slots.old.items (slots.new.items ++ slot_of r.0 r.1 (Some r.2) ∷ [])) }
 {
-    while let Some(slot) = slots.pop() {
-        if let Slot::Live(stored) = slot {
-            return Some(stored);
+    while let Some((serial, key, slot)) = slots.pop() {
+        if let Some(value) = slot {
+            return Some((serial, key, value));
         }
     }
     None
 }
 
 /// Goes on over holes, from a place before which there are only holes.
-pub fn skip_holes<T>(slots: &Vec<Slot<T>>, first: usize) -> usize
+pub fn skip_holes<T>(slots: &Slots<T>, first: usize) -> usize
     requires holes { AreHoles first slots.now.items }
-    requires within { first ≤ vec_len slots.now }
+    requires within { first ≤ length slots.now.items }
     ensures holes { AreHoles result slots.now.items }
-    ensures within { result ≤ vec_len slots.now }
+    ensures within { result ≤ length slots.now.items }
 {
     let mut place = first;
-    while place < slots.len() && stored_slot(slots, place).is_none() {
+    while place < slots.len() && !slots.is_live(place) {
         place += 1;
     }
     place
 }
 
 /// The first entry at a place or behind it, with its place.
-pub fn next_stored<T>(slots: &Vec<Slot<T>>, from: usize) -> Option<(usize, &Stored<T>)>
+pub fn next_stored<T>(slots: &Slots<T>, from: usize) -> Option<(usize, (u64, &Key, &T))>
     ensures none { IfNone result (entries_in (drop from slots.now.items) ≡ []) }
     ensures place { IfSome result (λ r. from ≤ r.0) }
-    ensures stored { IfSome result (λ r. stored_at r.0 slots.now.items ≡ Some r.1.now) }
+    ensures fits { IfSome result (λ r. r.0 < 2 ^ 64 - 1) }
+    ensures stored { IfSome result (λ r. stored_at r.0 slots.now.items ≡ Some (shown_entry r.1)) }
     ensures entries { IfSome result (λ r. entries_in (drop from slots.now.items)
-        ≡ entry_of r.1.now ∷ entries_in (drop (r.0 + 1) slots.now.items)) }
+        ≡ shown_entry r.1 ∷ entries_in (drop (r.0 + 1) slots.now.items)) }
 {
     for place in from..slots.len() {
-        if let Some(stored) = stored_slot(slots, place) {
-            return Some((place, stored));
+        if let Some(entry) = slots.entry(place) {
+            return Some((place, entry));
         }
     }
     None
 }
 
 /// The place of a slot with this serial, where no serial is left out before it.
-fn place_by_distance<T>(slots: &Vec<Slot<T>>, serial: u64) -> Option<usize>
-    ensures within { IfSome result (λ place. place < vec_len slots.now) }
+fn place_by_distance<T>(slots: &Slots<T>, serial: u64) -> Option<usize>
+    ensures within { IfSome result (λ place. place < length slots.now.items) }
     ensures serial { IfSome result (λ place. serial_at place slots.now.items ≡ serial) }
 {
-    if slots.is_empty() {
+    if slots.len() == 0 {
         return None;
     }
-    let place = serial.checked_sub(slot_serial(slots, 0))? as usize;
-    if place < slots.len() && slot_serial(slots, place) == serial {
+    let place = serial.checked_sub(slots.serial(0))? as usize;
+    if place < slots.len() && slots.serial(place) == serial {
         Some(place)
     } else {
         None
@@ -133,21 +89,21 @@ fn place_by_distance<T>(slots: &Vec<Slot<T>>, serial: u64) -> Option<usize>
 }
 
 /// How many slots have at most this serial.
-pub fn slots_through<T>(slots: &Vec<Slot<T>>, serial: u64) -> usize
+pub fn slots_through<T>(slots: &Slots<T>, serial: u64) -> usize
     requires { (to : ℕ) × DoSerialsRise 0 slots.now.items to }
-    ensures within { result ≤ vec_len slots.now }
+    ensures within { result ≤ length slots.now.items }
     ensures through { (i : ℕ) → i < result → serial_at i slots.now.items ≤ serial }
-    ensures behind { (i : ℕ) → result ≤ i → i < vec_len slots.now →
+    ensures behind { (i : ℕ) → result ≤ i → i < length slots.now.items →
         serial < serial_at i slots.now.items }
 {
+    let mut high = slots.len();
     if let Some(place) = place_by_distance(slots, serial) {
         return place + 1;
     }
     let mut low = 0;
-    let mut high = slots.len();
     while low < high {
         let middle = low + (high - low) / 2;
-        if slot_serial(slots, middle) <= serial {
+        if slots.serial(middle) <= serial {
             low = middle + 1;
         } else {
             high = middle;
@@ -157,14 +113,14 @@ pub fn slots_through<T>(slots: &Vec<Slot<T>>, serial: u64) -> usize
 }
 
 /// How many slots have at most this serial. A place is tried first, at which it is likely to stand.
-pub fn slots_through_near<T>(slots: &Vec<Slot<T>>, serial: u64, near: usize) -> usize
+pub fn slots_through_near<T>(slots: &Slots<T>, serial: u64, near: usize) -> usize
     requires { (to : ℕ) × DoSerialsRise 0 slots.now.items to }
-    ensures within { result ≤ vec_len slots.now }
+    ensures within { result ≤ length slots.now.items }
     ensures through { (i : ℕ) → i < result → serial_at i slots.now.items ≤ serial }
-    ensures behind { (i : ℕ) → result ≤ i → i < vec_len slots.now →
+    ensures behind { (i : ℕ) → result ≤ i → i < length slots.now.items →
         serial < serial_at i slots.now.items }
 {
-    if near < slots.len() && slot_serial(slots, near) == serial {
+    if near < slots.len() && slots.serial(near) == serial {
         near + 1
     } else {
         slots_through(slots, serial)

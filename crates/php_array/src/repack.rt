@@ -1,5 +1,5 @@
 // Slots are packed anew where most of them are holes.
-ghost use Rattle.std.specs.Prelude.{◌≡◌, ◌<◌, ◌≤◌, filter, drop, OnOk, OnErr, IfOk, vec_len, vec_capacity};
+ghost use Rattle.std.specs.Prelude.{◌≡◌, ◌<◌, filter, length, OnOk, OnErr, IfOk};
 ghost use Rattle.php_entries.specs.Soundness.{AreKeysDistinct};
 ghost use Rattle.php_array.specs.Index.{IsIndexed};
 ghost use Rattle.php_array.specs.Kept.{IsStored, IsRepacked};
@@ -8,7 +8,7 @@ ghost use Rattle.php_array.specs.Slots.{is_live, entries_in, AreHoles};
 use crate::key_index::KeyIndex;
 use crate::key_places::{collect_places, renew_places};
 use crate::places::{skip_holes, trim};
-use crate::slot::Slot;
+use crate::slots::Slots;
 use php_base::NoMemory;
 
 /// Fewer slots than this are not packed anew.
@@ -20,24 +20,21 @@ fn is_sparse(slots: usize, entries: usize) -> bool {
 }
 
 /// Drops all holes.
-fn drop_holes<T: Drop>(slots: &mut Vec<Slot<T>>)
+fn drop_holes<T: Drop>(slots: &mut Slots<T>)
     ensures { slots.new.items ≡ filter is_live slots.old.items }
 {
-    slots.retain(|slot| slot.is_live());
-}
-
-/// Drops the first slots.
-fn drop_front<T: Drop>(slots: &mut Vec<Slot<T>>, first: usize)
-    requires { first ≤ vec_len slots.old }
-    ensures { slots.new.items ≡ drop first slots.old.items }
-{
-    let left = slots.len() - first;
-    slots.as_mut_slice().rotate_left(first);
-    slots.truncate(left);
+    let mut kept = 0;
+    for place in 0..slots.len() {
+        if slots.is_live(place) {
+            slots.swap(kept, place);
+            kept += 1;
+        }
+    }
+    slots.truncate(kept);
 }
 
 /// Gives each key a place in a map, where the holes in front are fewer than all other slots.
-fn hash_index<T>(index: &mut KeyIndex, slots: &Vec<Slot<T>>, first: usize) -> Result<(), NoMemory>
+fn hash_index<T>(index: &mut KeyIndex, slots: &Slots<T>, first: usize) -> Result<(), NoMemory>
     requires distinct { AreKeysDistinct (entries_in slots.now.items) }
     requires indexed { IsIndexed index.old slots.now.items }
     ensures { IsIndexed index.new slots.now.items }
@@ -52,7 +49,7 @@ fn hash_index<T>(index: &mut KeyIndex, slots: &Vec<Slot<T>>, first: usize) -> Re
 }
 
 /// Drops holes: all of them, or where the places tell the keys those in front.
-fn compact<T: Drop>(index: &mut KeyIndex, slots: &mut Vec<Slot<T>>, first: usize) -> usize
+fn compact<T: Drop>(index: &mut KeyIndex, slots: &mut Slots<T>, first: usize) -> usize
     requires { IsStored index.old slots.old.items first }
     ensures { IsRepacked slots.old.items slots.new.items index.new result }
 {
@@ -64,7 +61,7 @@ fn compact<T: Drop>(index: &mut KeyIndex, slots: &mut Vec<Slot<T>>, first: usize
         }
         KeyIndex::Packed(first_key) => match first_key.checked_add(first as u64) {
             Some(shifted_key) if first >= slots.len() / 2 => {
-                drop_front(slots, first);
+                slots.drop_front(first);
                 *first_key = shifted_key;
                 0
             }
@@ -75,7 +72,7 @@ fn compact<T: Drop>(index: &mut KeyIndex, slots: &mut Vec<Slot<T>>, first: usize
 
 /// Drops all holes where a map tells the places. Where the keys tell them, holes stay until the room
 /// is used up: nothing else waits for it, and moving the slots costs a pass over them.
-fn compact_mapped<T: Drop>(index: &mut KeyIndex, slots: &mut Vec<Slot<T>>, first: usize) -> usize
+fn compact_mapped<T: Drop>(index: &mut KeyIndex, slots: &mut Slots<T>, first: usize) -> usize
     requires { IsStored index.old slots.old.items first }
     ensures { IsRepacked slots.old.items slots.new.items index.new result }
 {
@@ -89,7 +86,7 @@ fn compact_mapped<T: Drop>(index: &mut KeyIndex, slots: &mut Vec<Slot<T>>, first
 /// out. Where a map tells the places and most slots are holes by now, they are packed anew.
 pub fn settle<T: Drop>(
     index: &mut KeyIndex,
-    slots: &mut Vec<Slot<T>>,
+    slots: &mut Slots<T>,
     first: usize,
     count: usize,
 ) -> usize
@@ -112,7 +109,7 @@ pub fn settle<T: Drop>(
 /// has changed.
 fn compact_all<T: Drop>(
     index: &mut KeyIndex,
-    slots: &mut Vec<Slot<T>>,
+    slots: &mut Slots<T>,
     first: usize,
 ) -> Result<usize, NoMemory>
     requires { IsStored index.old slots.old.items first }
@@ -128,20 +125,19 @@ fn compact_all<T: Drop>(
 /// anew.
 pub fn make_room<T: Drop>(
     index: &mut KeyIndex,
-    slots: &mut Vec<Slot<T>>,
+    slots: &mut Slots<T>,
     first: &mut usize,
     count: usize,
 ) -> Result<(), NoMemory>
     requires { IsStored index.old slots.old.items first.old }
     ensures packed { IsRepacked slots.old.items slots.new.items index.new first.new }
-    ensures room { OnOk result (vec_len slots.new < vec_capacity slots.new) }
+    ensures room { OnOk result (length slots.new.items < slots.new.room) }
 {
-    if slots.len() < slots.capacity() {
+    if slots.has_room() {
         return Ok(());
     }
     if is_sparse(slots.len(), count) {
         *first = compact_all(index, slots, *first)?;
     }
-    slots.reserve(1)?;
-    Ok(())
+    slots.reserve()
 }

@@ -1,4 +1,4 @@
-use Rattle.std.proofs.Common.{vec_len}
+use Rattle.std.proofs.Common.{length}
 use Rattle.php_array.specs.Slots.{HoldsSame}
 use Rattle.php_array.proofs.places.trim.Given as goal
 
@@ -6,4 +6,4 @@ abbrev pub invariant-loop-slots : goal.invariant-loop-slots
 invariant-loop-slots g l = HoldsSame l.initial.slots.items l.slots.items
 
 abbrev pub decreases-loop-slots : goal.decreases-loop-slots
-decreases-loop-slots g l = vec_len l.slots
+decreases-loop-slots g l = length l.slots.items

@@ -7,7 +7,7 @@ use Rattle.php_array.specs.Index.{IsIndexed}
 use Rattle.php_array.specs.Kept.{IsRepacked}
 use Rattle.php_array.specs.Slots.{entries_in, place_of}
 use Rattle.php_array.specs.declared.key_index.KeyIndex.TheVariants.{Packed, Hashed}
-use Rattle.php_array.specs.declared.slot.Slot.{Slot}
+use Rattle.php_array.specs.Slot.{Slot}
 use Rattle.php_array.proofs.RepackLemmas.{live-entries, live-place, repacked-live, repacked-front}
 use Rattle.php_array.proofs.repack.compact.Goals as goal
 
@@ -32,5 +32,5 @@ returns-in-Some g c =
     let old = c.args.slots.now.items in
     let first = c.in-Packed.first_key in
     let shifted = repacked-front c.args.first first old c.requires.front c.requires.front_within (rw c.in-Packed.is at c.requires.indexed) in
-    subst (λ (key : ℕ). IsRepacked old c.drop_front.new.slots.items (Packed key) 0) (sym c.in-Some.ensures.1)
+    subst (λ (key : ℕ). IsRepacked old c.drop_front.new.self.items (Packed key) 0) (sym c.in-Some.ensures.1)
     (subst (λ (ss : List (Slot _)). IsRepacked old ss (Packed (first + c.args.first)) 0) (sym c.drop_front.ensures) shifted)

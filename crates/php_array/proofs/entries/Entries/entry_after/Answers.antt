@@ -1,7 +1,7 @@
 use Rattle.std.proofs.Common.{rules, ◌≡◌, ◌∙◌, ◌<◌, ◌≤◌, ◌+◌, ℕ, arith, drop, length, sym, ap, Some}
 use Rattle.std.specs.Prelude.{max}
 use Rattle.php_array.specs.Answers.{shown_entry}
-use Rattle.php_array.specs.Slots.{entry_of, entries_in, serial_at}
+use Rattle.php_array.specs.Slots.{entries_in, serial_at}
 use Rattle.php_array.proofs.AnswerLemmas.{entry_after-some, entry_after-none}
 use Rattle.php_array.proofs.entries.Entries.entry_after.Goals as goal
 
@@ -9,12 +9,10 @@ pub returns-in-Some : goal.returns-in-Some
 returns-in-Some g c =
     let i = c.self.inside in
     let ss = i.slots.items in
-    let e = c.in-Some.stored.now in
+    let e = shown_entry c.in-Some.entry in
     let from : c.max-place.result ≡ max c.slots_through.result i.first = search rules in
-    let high : (j : ℕ) → c.slots_through.result ≤ j → j < length ss → c.args.serial < serial_at j ss = λ j above below. c.slots_through.ensures.behind j above (let ok = i.slots.ok in omega arith) in
-    let shown : shown_entry c.shown.result ≡ entry_of e = λ t. record { serial = c.shown.ensures.serial t; key = c.shown.ensures.key t; value = c.shown.ensures.value t } in
-    ap Some shown
-    ∙ sym (entry_after-some c.args.self.now ss i.next_key i.next_serial c.self.view_is c.args.serial c.slots_through.result i.first c.max-place.result c.slots_through.ensures.through c.self.invariant.front from high c.in-Some.field-0-0 e (entries_in (drop (c.in-Some.field-0-0 + 1) ss)) c.in-Some.ensures.place c.in-Some.ensures.stored c.in-Some.ensures.entries)
+    let high : (j : ℕ) → c.slots_through.result ≤ j → j < length ss → c.args.serial < serial_at j ss = λ j above below. c.slots_through.ensures.behind j above below in
+    sym (entry_after-some c.args.self.now ss i.next_key i.next_serial c.self.view_is c.args.serial c.slots_through.result i.first c.max-place.result c.slots_through.ensures.through c.self.invariant.front from high c.in-Some.field-0-0 e (entries_in (drop (c.in-Some.field-0-0 + 1) ss)) c.in-Some.ensures.place c.in-Some.ensures.stored c.in-Some.ensures.entries)
 
 pub returns-in-None : goal.returns-in-None
 returns-in-None g c =

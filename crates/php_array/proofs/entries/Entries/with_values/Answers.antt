@@ -6,9 +6,9 @@ use Rattle.php_entries.specs.Changes.{entries_with, with_values}
 use Rattle.php_entries.specs.Soundness.{HasNoKey}
 use Rattle.php_entries.proofs.ListLemmas.{find-HasNoKey}
 use Rattle.php_array.specs.Kept.{listing_of}
-use Rattle.php_array.specs.Slots.{entries_in, entry_of}
+use Rattle.php_array.specs.Answers.{shown_entry}
+use Rattle.php_array.specs.Slots.{entries_in}
 use Rattle.php_array.proofs.CopyLemmas.{drop-next, entries_with-push, length-entries_with, copied-absent, copied-kept, copied-after, length-drop_none, length-taken, push-taken, all-taken, rise-next, drop-push, entries_with-no_values}
-use Rattle.php_array.proofs.PlaceLemmas.{stored-within}
 use Rattle.php_array.proofs.RepackLemmas.{drop-entries}
 use Rattle.php_array.proofs.entries.Entries.with_values.Goals as goal
 
@@ -36,9 +36,9 @@ unreachable-requires g c =
 pub add-requires-clause-absent : goal.add-requires-clause-absent
 add-requires-clause-absent g c =
     let es = entries_in c.self.inside.slots.items in
-    let e = c.in-Some-next_stored.stored.now in
+    let e = shown_entry c.in-Some-next_stored.entry in
     let is = sym c.loop-value.invariant.rest ∙ c.in-Some-next_stored.ensures.entries in
-    let missing = copied-absent es c.loop-value.yielded (entry_of e) (entries_in (drop (c.in-Some-next_stored.at + 1) c.self.inside.slots.items)) c.self.invariant.sound.keys_distinct is in
+    let missing = copied-absent es c.loop-value.yielded e (entries_in (drop (c.in-Some-next_stored.at + 1) c.self.inside.slots.items)) c.self.invariant.sound.keys_distinct is in
     find-HasNoKey c.in_ok-key.key c.loop-value.copy.entries
     (subst (λ (xs : List (Entry _)). HasNoKey c.in_ok-key.key xs) (sym c.loop-value.invariant.copied)
     (subst (λ (k : Key). HasNoKey k (entries_with es c.loop-value.yielded)) (sym c.in_ok-key.ensures) missing))
@@ -46,39 +46,35 @@ add-requires-clause-absent g c =
 pub add-requires-clause-room : goal.add-requires-clause-room
 add-requires-clause-room g c =
     let es = entries_in c.self.inside.slots.items in
-    let e = c.in-Some-next_stored.stored.now in
+    let e = shown_entry c.in-Some-next_stored.entry in
     let is = sym c.loop-value.invariant.rest ∙ c.in-Some-next_stored.ensures.entries in
-    let below = (drop-next (length c.loop-value.yielded) es (entry_of e) (entries_in (drop (c.in-Some-next_stored.at + 1) c.self.inside.slots.items)) is).1 in
+    let below = (drop-next (length c.loop-value.yielded) es e (entries_in (drop (c.in-Some-next_stored.at + 1) c.self.inside.slots.items)) is).1 in
     let few = c.self.invariant.sound.count_within in
     let copied = ap length c.loop-value.invariant.copied in
     let taken = length-entries_with es c.loop-value.yielded (omega arith) in
     omega arith
 
 pub overflow_add-place : goal.overflow_add-place
-overflow_add-place g c =
-    let within = stored-within c.in-Some-next_stored.at c.self.inside.slots.items (ap is_some c.in-Some-next_stored.ensures.stored) in
-    let ok = c.self.inside.slots.ok in
-    let small = c.self.inside.slots.small in
-    search rules
+overflow_add-place g c = let fits = c.in-Some-next_stored.ensures.fits in omega arith
 
 pub loop-value-preserved : goal.loop-value-preserved
 loop-value-preserved g c =
     let es = entries_in c.self.inside.slots.items in
-    let e = c.in-Some-next_stored.stored.now in
+    let e = shown_entry c.in-Some-next_stored.entry in
     let y = c.loop-value.yielded in
     let v = c.in-Some.value in
     let behind = entries_in (drop (c.in-Some-next_stored.at + 1) c.self.inside.slots.items) in
     let is = sym c.loop-value.invariant.rest ∙ c.in-Some-next_stored.ensures.entries in
     let before = c.loop-value.invariant.last in
-    let next = rise-next before.0 c.self.inside.next_serial es y v (entry_of e) behind is before.1.1.1 in
+    let next = rise-next before.0 c.self.inside.next_serial es y v e behind is before.1.1.1 in
     record {
       values = push-taken y c.loop-value.value-iterator.rest.items c.next.new.self.rest.items c.args.values.items v c.loop-value.invariant.values c.in-Some.ensures.steps.0;
-      rest = drop-push es y v (entry_of e) behind is;
+      rest = drop-push es y v e behind is;
       copied =
           ap (λ (m : Listing _). m.entries) c.in-Ok.ensures.ok
           ∙ ap (λ (xs : List (Entry _)). xs ++ record { serial = e.serial; key = c.in_ok-key.key; value = v } ∷ []) c.loop-value.invariant.copied
           ∙ ap (λ (k : Key). entries_with es y ++ record { serial = e.serial; key = k; value = v } ∷ []) c.in_ok-key.ensures
-          ∙ sym (entries_with-push es y v (entry_of e) behind is);
+          ∙ sym (entries_with-push es y v e behind is);
       last = (e.serial, (ap (λ (m : Listing _). m.next_serial) c.in-Ok.ensures.ok, next));
     }
 

@@ -1,0 +1,17 @@
+use Rattle.std.proofs.Common.{◌<◌, length, ap, arith}
+use Rattle.std.proofs.lemmas.Bool.{lt-ltb}
+use borrow.Author.Tests.{ltb-true}
+use Rattle.php_array.specs.Slot.{SlotList}
+use Rattle.php_array.proofs.HeadLemmas.{length-slots_of}
+use Rattle.php_array.proofs.slots.Slots.has_room.Goals as goal
+
+pub returns : goal.returns
+returns g c =
+    let i = c.self.inside in
+    let ok = i.values.ok in
+    let shown = ap (λ (l : SlotList _). length l.items) c.self.view_is in
+    let room = ap (λ (l : SlotList _). l.room) c.self.view_is in
+    let len = length-slots_of i.heads.items i.values.items c.self.invariant in (
+      λ is. (let below : c.len.result < c.min.result = ltb-true c.len.result c.min.result is in omega arith),
+      λ below. lt-ltb c.len.result c.min.result (omega arith),
+    )
