@@ -1,7 +1,8 @@
 // The expression that begins at a place among the tokens of a script.
 
-ghost use Rattle.std.specs.Prelude.{◌≡◌, ◌≤◌, ◌-◌, length, IfOk, IfErr};
+ghost use Rattle.std.specs.Prelude.{◌≡◌, ◌≤◌, ◌-◌, true, length, IfOk, IfErr};
 ghost use Rattle.php_parse_body.specs.Exact as exact;
+ghost use Rattle.php_parse_body.specs.Flat.{is_flat};
 
 use crate::expression::expr;
 use crate::fail::{ParseFail, Stop};
@@ -37,7 +38,7 @@ fn with_line(tokens: &Tokens, stop: Stop) -> ParseFail
 ///
 /// Of the tokens from `at` on as many are read as begin an expression. Where these spell one, it is answered;
 /// else `Syntax` with the place of the first token that was not read, and its line. A token behind them that
-/// no expression goes on with is left to the caller. `depth` is how many constructs are open around `at`;
+/// no expression goes on with is left to the caller. The expression is flat. `depth` is how many constructs are open around `at`;
 /// the first token inside more than 128 of them is `TooDeep`. The time is linear in the number of tokens
 /// read, and calls nest only as deep as constructs do.
 pub fn parse_expr(
@@ -49,6 +50,7 @@ pub fn parse_expr(
     requires within { at ≤ length tokens.now }
     requires shallow { depth ≤ 128 }
     ensures read { IfOk result (λ r. exact.IsRead depth tokens.now at r.0 r.1) }
+    ensures flat { IfOk result (λ r. is_flat r.0 ≡ true) }
     ensures refused { IfErr result (λ fail. exact.IsRefused depth tokens.now at fail) }
 {
     match expr(alloc, tokens, at, 1, 129 - depth as usize) {
