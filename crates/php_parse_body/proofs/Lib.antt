@@ -1,5 +1,8 @@
 pub mod Moves
 pub mod Views
+pub mod Flats
+pub mod Runs
+mod FlatExamples
 pub mod Words
 pub mod Productions
 pub mod Enters

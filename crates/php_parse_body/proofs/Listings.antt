@@ -390,6 +390,7 @@ item_keyed array_of room tokens at place k key (Ok r) spans deep ahead reads fou
   form = found.form;
   shown = λ xs. found.shown xs k at spans.shown ∙ ap (λ n. and xs (noted_lead (notes_of tokens) at (found.lead k)) (noted (notes_of tokens) n found.form)) (omega (arith, found.lead_sized k, spans.sized));
   sized = omega (arith, found.sized, found.lead_sized k, spans.sized);
+  flat = found.flat;
   reads = λ items. leads (λ s. past_value (of_list (array array_of)) items k s) (reads items) (found.reads array_of items k);
   rests = found.rests;
   no_key = λ a. let b = found.keyed k in cc;

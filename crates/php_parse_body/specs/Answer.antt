@@ -30,6 +30,7 @@ use Rattle.php_parse_body.specs.declared.reader.Followed.{Followed}
 use Rattle.php_parse_body.specs.declared.reader.Listed.{Listed}
 use Rattle.php_parse_body.specs.declared.reader.Entry.{Entry}
 use Rattle.php_parse_body.specs.Parts as part
+use Rattle.php_parse_body.specs.Flat.{are_flat, is_flat_piece, are_flat_pieces, is_flat_item, are_flat_items, is_flat_argument, are_flat_arguments, are_flat_suffixes, is_flat_step, are_flat_steps, is_flat_class}
 use Rattle.php_parse_body.specs.declared.sign.Tail.{Tail}
 use Rattle.php_parse_body.specs.declared.sign.Opening.{Opening}
 use Rattle.php_parse_body.specs.declared.sign.Opening.TheVariants as opening
@@ -174,6 +175,7 @@ pub record SpansItems (tokens : List Token) (xs : tree.Items Note) (items : tree
 pub record FoundArguments (room : ℕ) (tokens : List Token) (at : ℕ) (r : Listed (Argument Expr)) : Type 0 where
   pub items : tree.Items Nothing
   pub spans : SpansItems tokens (shown.arguments_from tree.none (map part.argument_parts r.items)) items at r.next
+  pub flat : are_flat_arguments r.items ≡ true
   pub reads : (h : Holder) → is_arguments h ≡ true → Leads room 200 (λ s. past_items h tree.none s) (rest tokens at) (λ s. after (closed_with h items) s) (rest tokens r.next)
   pub ahead : at < r.next
   pub within : r.next ≤ length tokens
@@ -185,6 +187,7 @@ AnswersArguments room tokens at (Err e) = (h : Holder) → is_arguments h ≡ tr
 pub record FoundItems (form : ArrayForm) (room : ℕ) (tokens : List Token) (at : ℕ) (r : Listed (Item Expr)) : Type 0 where
   pub items : tree.Items Nothing
   pub spans : SpansItems tokens (shown.items_from tree.none (map part.item_parts r.items)) items at r.next
+  pub flat : are_flat_items r.items ≡ true
   pub reads : Leads room 200 (λ s. past_items (of_list (array form)) tree.none s) (rest tokens at) (λ s. holds (tree.listed tt (array form) items) s) (rest tokens r.next)
   pub ahead : at < r.next
   pub within : r.next ≤ length tokens
@@ -196,6 +199,7 @@ AnswersItems form room tokens at (Err e) = Fails room 200 (λ s. past_items (of_
 pub record FoundValues (room : ℕ) (tokens : List Token) (at : ℕ) (r : Listed Expr) : Type 0 where
   pub items : tree.Items Nothing
   pub spans : SpansItems tokens (shown.values_from tree.none (map view r.items)) items at r.next
+  pub flat : are_flat r.items ≡ true
   pub reads : Leads room 200 (λ s. past_items (of_list isset) tree.none s) (rest tokens at) (λ s. holds (tree.listed tt isset items) s) (rest tokens r.next)
   pub ahead : at < r.next
   pub within : r.next ≤ length tokens
@@ -210,6 +214,7 @@ pub record FoundItem (array_of : ArrayForm) (room : ℕ) (tokens : List Token) (
   pub form : Form
   pub shown : (xs : tree.Items Note) → shown.item_more xs (part.item_parts r.item) ≡ tree.and xs (noted_lead (notes_of tokens) at lead) (noted (notes_of tokens) (at + size_lead lead) form)
   pub sized : at + size_lead lead + size form ≡ r.next
+  pub flat : is_flat_item r.item ≡ true
   pub reads : (items : tree.Items Nothing) → Leads room 200 (λ s. past_items (of_list (array array_of)) items s) (rest tokens at) (λ s. holds form (items_open (of_list (array array_of)) items lead ∷ s)) (rest tokens r.next)
   pub rests : Rests 1 (ends form) (rest tokens r.next)
   pub no_key : is_plain lead ≡ true → head_continuation (rest tokens r.next) ≢ closes sign.double_arrow
@@ -227,6 +232,7 @@ pub record FoundKeyed (key : Tree Note) (room : ℕ) (tokens : List Token) (at :
   pub lead_sized : (k : Form) → size_lead (lead k) ≡ size k + 1 + lead_size
   pub keyed : (k : Form) → is_plain (lead k) ≡ false
   pub sized : at + lead_size + size form ≡ r.next
+  pub flat : is_flat_item r.item ≡ true
   pub reads : (form_of : ArrayForm) (items : tree.Items Nothing) (k : Form) → Leads room 200 (λ s. past_value (of_list (array form_of)) items k s) (rest tokens at) (λ s. holds form (items_open (of_list (array form_of)) items (lead k) ∷ s)) (rest tokens r.next)
   pub rests : Rests 1 (ends form) (rest tokens r.next)
   pub ahead : at < r.next
@@ -246,6 +252,7 @@ pub record FoundArgument (room : ℕ) (tokens : List Token) (at : ℕ) (r : Entr
   pub form : Form
   pub shown : (xs : tree.Items Note) → shown.argument_more xs (part.argument_parts r.item) ≡ tree.and xs (noted_lead (notes_of tokens) at lead) (noted (notes_of tokens) (at + size_lead lead) form)
   pub sized : at + size_lead lead + size form ≡ r.next
+  pub flat : is_flat_argument r.item ≡ true
   pub reads : (h : Holder) (items : tree.Items Nothing) → is_arguments h ≡ true → Leads room 200 (λ s. past_items h items s) (rest tokens at) (λ s. holds form (items_open h items lead ∷ s)) (rest tokens r.next)
   pub rests : Rests 1 (ends form) (rest tokens r.next)
   pub deep : 2 ≤ room
@@ -264,6 +271,7 @@ pub record FoundStep (room : ℕ) (tokens : List Token) (at : ℕ) (r : Entry (C
   pub shown : (steps : tree.Steps Nothing) (start : ℕ) → start + size_steps steps ≡ at
       → shown.step_more (noted_steps (notes_of tokens) start steps) (part.step_parts r.item) ≡ noted_steps (notes_of tokens) start (more steps)
   pub sized : (steps : tree.Steps Nothing) → size_steps (more steps) + at ≡ size_steps steps + r.next
+  pub flat : is_flat_step r.item ≡ true
   pub reads : (steps : tree.Steps Nothing) → Leads room 200 (λ s. past_class (tree.class_found steps) s) (rest tokens at) (λ s. past_class (tree.class_found (more steps)) s) (rest tokens r.next)
   pub ahead : at < r.next
   pub within : r.next ≤ length tokens
@@ -281,6 +289,7 @@ pub record FoundClass (from : OpenForms → State) (room : ℕ) (tokens : List T
   pub class : tree.Class Nothing
   pub shown : shown.class_view (part.class_parts r.item) ≡ noted_class (notes_of tokens) at class
   pub sized : at + size_class class ≡ r.next
+  pub flat : is_flat_class r.item ≡ true
   pub reads : Leads room 200 from (rest tokens at) (λ s. past_class class s) (rest tokens r.next)
   pub no_index : is_found class ≡ true → head_continuation (rest tokens r.next) ≢ draws sign.subscripts
   pub no_arrow : is_found class ≡ true → head_continuation (rest tokens r.next) ≢ draws (sign.selects tree.thin)
@@ -297,6 +306,7 @@ pub record FoundPart (room : ℕ) (tokens : List Token) (at : ℕ) (r : Entry (P
   pub form : Form
   pub shown : (pieces : tree.Pieces Note) → shown.piece_more pieces (part.piece_parts r.item) ≡ tree.value pieces (noted (notes_of tokens) (at + 1) form)
   pub sized : at + size form + 2 ≡ r.next
+  pub flat : is_flat_piece r.item ≡ true
   pub reads : (pieces : tree.Pieces Nothing) → Leads room 200 (λ s. past_template pieces s) (rest tokens at) (λ s. past_template (tree.value pieces form) s) (rest tokens r.next)
   pub ahead : at < r.next
   pub within : r.next ≤ length tokens
@@ -309,6 +319,7 @@ pub record FoundPieces (room : ℕ) (tokens : List Token) (at : ℕ) (r : Listed
   pub pieces : tree.Pieces Nothing
   pub shown : shown.pieces_from tree.no_piece (map part.piece_parts r.items) ≡ noted_pieces (notes_of tokens) at pieces
   pub sized : at + size_pieces pieces + 1 ≡ r.next
+  pub flat : are_flat_pieces r.items ≡ true
   pub reads : Leads room 200 (λ s. past_template tree.no_piece s) (rest tokens at) (λ s. holds (tree.template tt pieces) s) (rest tokens r.next)
   pub ahead : at < r.next
   pub within : r.next ≤ length tokens
@@ -371,6 +382,7 @@ AnswersNone level tokens at e = Fails 0 level (λ s. expects s) (rest tokens at)
 pub record OperandSoFar (room : ℕ) (tokens : List Token) (at : ℕ) (first : Expr) (suffixes : List (Suffix Expr)) (least : ℕ) (called : Bool) (next : ℕ) : Type 0 where
   pub form : Form
   pub spans : Spans tokens (shown.with_suffixes (view first) (map part.suffix_parts suffixes)) form at next
+  pub flat : are_flat_suffixes suffixes ≡ true
   pub reads : Leads room 200 (λ s. expects s) (rest tokens at) (λ s. after form s) (rest tokens next)
   pub edge_is : ends form ≡ least
   pub opened : 51 ≤ ends form
@@ -384,6 +396,7 @@ pub record ArgumentsSoFar (room : ℕ) (tokens : List Token) (at : ℕ) (xs : Li
   pub items : tree.Items Nothing
   pub shown : shown.arguments_from tree.none (map part.argument_parts xs) ≡ noted_items (notes_of tokens) at items
   pub sized : at + size_items items + comma_size items ≡ next
+  pub flat : are_flat_arguments xs ≡ true
   pub reads : (h : Holder) → is_arguments h ≡ true → Leads room 200 (λ s. past_items h tree.none s) (rest tokens at) (λ s. past_items h items s) (rest tokens next)
   pub no_end : head_continuation (rest tokens next) ≢ closes sign.paren
   pub within : next ≤ length tokens
@@ -392,6 +405,7 @@ pub record ValuesSoFar (room : ℕ) (tokens : List Token) (at : ℕ) (xs : List 
   pub items : tree.Items Nothing
   pub shown : shown.values_from tree.none (map view xs) ≡ noted_items (notes_of tokens) at items
   pub sized : at + size_items items + comma_size items ≡ next
+  pub flat : are_flat xs ≡ true
   pub reads : Leads room 200 (λ s. past_items (of_list isset) tree.none s) (rest tokens at) (λ s. past_items (of_list isset) items s) (rest tokens next)
   pub within : next ≤ length tokens
 
@@ -403,6 +417,7 @@ pub record ItemsSoFar (form : ArrayForm) (room : ℕ) (tokens : List Token) (at 
   pub items : tree.Items Nothing
   pub shown : shown.items_from tree.none (map part.item_parts xs) ≡ noted_items (notes_of tokens) at items
   pub sized : at + size_items items + comma_size items ≡ next
+  pub flat : are_flat_items xs ≡ true
   pub none_is : is_none items ≡ no_items xs
   pub reads : Leads room 200 (λ s. past_items (of_list (array form)) tree.none s) (rest tokens at) (λ s. past_items (of_list (array form)) items s) (rest tokens next)
   pub within : next ≤ length tokens
@@ -411,6 +426,7 @@ pub record PiecesSoFar (room : ℕ) (tokens : List Token) (at : ℕ) (xs : List 
   pub pieces : tree.Pieces Nothing
   pub shown : shown.pieces_from tree.no_piece (map part.piece_parts xs) ≡ noted_pieces (notes_of tokens) at pieces
   pub sized : at + size_pieces pieces ≡ next
+  pub flat : are_flat_pieces xs ≡ true
   pub reads : Leads room 200 (λ s. past_template tree.no_piece s) (rest tokens at) (λ s. past_template pieces s) (rest tokens next)
   pub within : next ≤ length tokens
 
@@ -418,6 +434,7 @@ pub record StepsSoFar (room : ℕ) (tokens : List Token) (at : ℕ) (text : List
   pub steps : tree.Steps Nothing
   pub shown : shown.steps_from (noted_steps (notes_of tokens) at (tree.from (tt {0}) text)) (map part.step_parts xs) ≡ noted_steps (notes_of tokens) at steps
   pub sized : at + size_steps steps ≡ next
+  pub flat : are_flat_steps xs ≡ true
   pub reads : Leads room 200 (λ s. past_new s) (rest tokens at) (λ s. past_class (tree.class_found steps) s) (rest tokens next)
   pub ahead : at < next
   pub within : next ≤ length tokens

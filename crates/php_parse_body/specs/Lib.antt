@@ -3,4 +3,5 @@ pub mod Walk
 pub mod Seen
 pub mod Answer
 pub mod Parts
+pub mod Flat
 pub mod Exact

@@ -73,6 +73,7 @@ pub(crate) fn expr(
     if room == 0 {
         return Err(sunk(tokens, at));
     }
+    // A level of nesting counts for more than all powers, which are at most 50.
     let bound = 200 * room as u32 + (100 - level as u32);
     Reader { alloc, bound, expr }.climb(tokens, at, level, room)
 }

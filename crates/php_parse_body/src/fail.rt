@@ -15,7 +15,7 @@ pub enum ParseFail {
     /// A token inside more than 128 constructs.
     #[error("token {0} on line {1} is nested too deep")]
     TooDeep(usize, u32),
-    /// Memory could not be had. No other cause gives this answer.
+    /// Memory could not be had.
     #[error("out of memory")]
     NoMemory,
 }

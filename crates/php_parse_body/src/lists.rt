@@ -9,6 +9,7 @@ ghost use Rattle.php_ast.specs.Sign.{beginning, closes, draws};
 ghost use Rattle.php_ast.specs.Laws.{head_continuation};
 ghost use Rattle.php_ast.specs.View.{view};
 ghost use Rattle.php_parse_body.specs.Answer.{AnswersArgument, AnswersArguments, AnswersItem, AnswersItems, AnswersKeyed, AnswersLeaf, AnswersValues, Ready, closer_in};
+ghost use Rattle.php_parse_body.specs.Flat.{is_flat};
 ghost use Rattle.php_parse_body.specs.Seen.{Shows, rest};
 ghost use Rattle.php_parse_body.specs.SignView.{closer_view};
 
@@ -110,6 +111,7 @@ impl<F: Fn(Global, &Tokens, usize, u8, usize) -> Result<Read, Stop>> Reader<F> {
                 return Err(Stop::Syntax(entry.next));
             }
             next = entry.next + 1;
+            // No argument begins with it, and none is read before this is known.
             if ends_with(tokens, next, Closer::Paren) {
                 return Err(Stop::Syntax(next));
             }
@@ -192,6 +194,7 @@ impl<F: Fn(Global, &Tokens, usize, u8, usize) -> Result<Read, Stop>> Reader<F> {
         requires ready { Ready self.now.bound room (F.pre self.now.expr) (F.post self.now.expr) }
         requires within { at ≤ length tokens.now }
         requires deep { 2 ≤ room }
+        requires flat { is_flat key ≡ true }
         ensures { AnswersKeyed (view key) room tokens.now at result }
     {
         if sees_ampersand(tokens, at) {

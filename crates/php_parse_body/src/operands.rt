@@ -8,6 +8,7 @@ ghost use Rattle.php_ast.specs.Sign.{beginning, continuation};
 ghost use Rattle.php_ast.specs.View.{view};
 ghost use Rattle.php_ast.specs.Placed.{notes_of};
 ghost use Rattle.php_parse_body.specs.Answer.{AnswersLeaf, Ready};
+ghost use Rattle.php_parse_body.specs.Flat.{is_flat_leaf};
 ghost use Rattle.php_parse_body.specs.Seen.{Shows};
 ghost use Rattle.php_parse_body.specs.SignView.{leaf_view, opening_view};
 ghost use Rattle.php_parse_body.specs.declared.sign.Opening.TheVariants.{Static};
@@ -25,7 +26,8 @@ use std::alloc::Global;
 /// An operand of one token.
 fn leaf_expr(alloc: Global, tokens: &Tokens, at: usize, kind: LeafKind) -> Result<Expr, NoMemory>
     requires { at < length tokens.now }
-    ensures { IfOk result (λ e. view e ≡ tree.leaf ((notes_of tokens.now).token at) (leaf_view kind (token_at tokens.now at).text)) }
+    ensures shown { IfOk result (λ e. view e ≡ tree.leaf ((notes_of tokens.now).token at) (leaf_view kind (token_at tokens.now at).text)) }
+    ensures flat { IfOk result (λ e. is_flat_leaf e ≡ true) }
 {
     match kind {
         LeafKind::Variable => Ok(Expr::Variable(name_at(alloc, tokens, at)?)),

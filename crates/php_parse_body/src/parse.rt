@@ -1,7 +1,8 @@
 // The expression that begins at a place among the tokens of a script.
 
-ghost use Rattle.std.specs.Prelude.{◌≡◌, ◌≤◌, ◌-◌, length, IfOk, IfErr};
+ghost use Rattle.std.specs.Prelude.{◌≡◌, ◌≤◌, ◌-◌, true, length, IfOk, IfErr};
 ghost use Rattle.php_parse_body.specs.Exact as exact;
+ghost use Rattle.php_parse_body.specs.Flat.{is_flat};
 
 use crate::expression::expr;
 use crate::fail::{ParseFail, Stop};
@@ -37,9 +38,10 @@ fn with_line(tokens: &Tokens, stop: Stop) -> ParseFail
 ///
 /// Of the tokens from `at` on as many are read as begin an expression. Where these spell one, it is answered;
 /// else `Syntax` with the place of the first token that was not read, and its line. A token behind them that
-/// no expression goes on with is left to the caller. `depth` is how many constructs are open around `at`;
-/// the first token inside more than 128 of them is `TooDeep`. Calls nest as constructs do and, inside each,
-/// as operators of rising power do.
+/// no expression goes on with is left to the caller. A `yield` alone is answered where the token behind it may stand
+/// there, else that token is `Syntax`. The expression is flat. `depth` is how many constructs are open around `at`; the
+/// first token inside more than 128 of them is `TooDeep`. Calls nest as constructs do and, inside each, as operators of
+/// rising power do. `NoMemory` comes for want of memory.
 pub fn parse_expr(
     alloc: Global,
     tokens: &Tokens,
@@ -49,6 +51,7 @@ pub fn parse_expr(
     requires within { at ≤ length tokens.now }
     requires shallow { depth ≤ 128 }
     ensures read { IfOk result (λ r. exact.IsRead depth tokens.now at r.0 r.1) }
+    ensures flat { IfOk result (λ r. is_flat r.0 ≡ true) }
     ensures refused { IfErr result (λ fail. exact.IsRefused depth tokens.now at fail) }
 {
     match expr(alloc, tokens, at, 1, 129 - depth as usize) {

@@ -2,7 +2,7 @@
 
 ghost use Rattle.std.specs.Prelude.{◌≡◌, ◌≤◌, ◌<◌, ◌+◌, ◌*◌, ◌-◌, ◌^◌, length, true, false};
 ghost use Rattle.php_parse_body.specs.declared.fail.Stop.TheVariants.{Syntax};
-ghost use Rattle.php_parse_body.specs.Answer.{AnswersHere, Nests, Ready, rank};
+ghost use Rattle.php_parse_body.specs.Flat.{is_flat, is_flat_leaf, is_flat_suffix};
 
 use crate::fail::Stop;
 use php_ast::{Expr, Suffix};
@@ -16,14 +16,16 @@ pub(crate) struct Read {
     pub(crate) expr: Expr,
     pub(crate) edge: u8,
     pub(crate) next: usize,
+    ghost flat: { is_flat expr ≡ true },
 }
 
-/// An operand without suffixes, likewise.
+/// An operand without suffixes, likewise. It is no chain, so that suffixes may follow it.
 #[derive(Drop)]
 pub(crate) struct Taken {
     pub(crate) expr: Expr,
     pub(crate) edge: u8,
     pub(crate) next: usize,
+    ghost flat: { is_flat_leaf expr ≡ true },
 }
 
 /// An operand with its suffixes, likewise.
@@ -34,6 +36,7 @@ pub(crate) struct Operand {
     /// Whether its last suffix is a call.
     pub(crate) is_call: bool,
     pub(crate) next: usize,
+    ghost flat: { is_flat expr ≡ true },
 }
 
 /// A suffix, and the place behind it.
@@ -42,6 +45,7 @@ pub(crate) struct Followed {
     pub(crate) suffix: Suffix<Expr>,
     pub(crate) is_call: bool,
     pub(crate) next: usize,
+    ghost flat: { is_flat_suffix suffix ≡ true },
 }
 
 /// What was listed, and the place behind its closing token.
@@ -83,6 +87,8 @@ pub(crate) struct Reader<F> {
 }
 
 impl<F: Fn(Global, &Tokens, usize, u8, usize) -> Result<Read, Stop>> Reader<F> {
+    ghost use Rattle.php_parse_body.specs.Answer.{AnswersHere, Nests, Ready, rank};
+
     /// The expression that begins at a place.
     pub(crate) fn beside(
         &self,

@@ -165,7 +165,7 @@ impl<F: Fn(Global, &Tokens, usize, u8, usize) -> Result<Read, Stop>> Reader<F> {
         }
     }
 
-    /// The suffixes behind an operand.
+    /// An operand with the suffixes behind it.
     pub(crate) fn operand(
         &self,
         tokens: &Tokens,

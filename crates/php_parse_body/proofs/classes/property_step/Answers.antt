@@ -18,6 +18,7 @@ returns c = λ room deep.
       more = λ steps. step_property steps m.0;
       shown = λ steps start sized. step_shown c.args.tokens.now steps _ m.0 start c.args.at sized m.2;
       sized = λ steps. omega arith;
+      flat = refl;
       reads = λ steps. step_reads o.token m.1.token steps m.0 o.stands.is o.role_is m.1.stands.is m.1.role_is deep;
       ahead = omega arith;
       within = omega (arith, m.1.stands.within);

@@ -11,7 +11,7 @@ returns c =
     let l = leaf_view c.args.kind (token_at c.args.tokens.now c.args.at).text in
     λ room deep. record {
       form = leaf tt (leaf_view c.args.kind (token_at c.args.tokens.now c.args.at).text);
-      spans = record { shown = c.in_ok-leaf_expr.ensures; sized = omega arith };
+      spans = record { shown = c.in_ok-leaf_expr.ensures.shown; sized = omega arith };
       reads = leaf_reads o.token (leaf_view c.args.kind (token_at c.args.tokens.now c.args.at).text) o.stands.is o.role_is deep;
       edge_is = refl;
       opened = omega arith;

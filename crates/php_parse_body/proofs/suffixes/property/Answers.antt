@@ -16,7 +16,7 @@ returns c = λ room f start deep sized low.
     let s = selected_spans c.args.tokens.now f thin _ m.0 start c.args.at sized m.2 in
     record {
       form = selected f thin m.0;
-      spans = record { shown = c.property_of.ensures (noted (notes_of c.args.tokens.now) start f) ∙ s.shown; sized = s.sized };
+      spans = record { shown = c.property_of.ensures.shown (noted (notes_of c.args.tokens.now) start f) ∙ s.shown; sized = s.sized };
       reads = property_reads o.token m.1.token f m.0 o.stands.is o.role_is low m.1.stands.is c.requires.no_brace m.1.role_is deep;
       ends_is = refl;
       call_is = refl;

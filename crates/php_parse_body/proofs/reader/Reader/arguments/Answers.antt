@@ -5,6 +5,7 @@ use Rattle.php_ast.specs.Tree.{none}
 use Rattle.php_ast.specs.View.{arguments_from}
 use Rattle.php_parse_body.specs.Parts.{argument_parts}
 use Rattle.php_parse_body.proofs.Listings.{no_arguments_read, no_arguments_halt}
+use Rattle.php_parse_body.specs.Flat.{are_flat_arguments}
 use Rattle.php_parse_body.proofs.reader.Reader.arguments.Goals as goal
 
 pub returns-then-room-eq1 : goal.returns-then-room-eq1
@@ -19,6 +20,7 @@ returns g c =
     record {
       items = none;
       spans = record { shown = ap (λ l. arguments_from none (map argument_parts l)) c.new.ensures; sized = omega arith };
+      flat = ap are_flat_arguments c.new.ensures;
       reads = λ h is. no_arguments_read e.token h is e.stands.is e.role_is (omega arith);
       ahead = omega arith;
       within = omega (arith, e.stands.within);

@@ -21,7 +21,7 @@ returns g c =
     let r = c.in_ok-items.ensures in
     record {
       form = listed tt (array array_form.Brackets) r.items;
-      spans = listed_spans c.args.tokens.now (array array_form.Brackets) _ _ _ r.items c.args.at (c.args.at + 1) _ c.listed.ensures c.spot.ensures r.spans (omega arith);
+      spans = listed_spans c.args.tokens.now (array array_form.Brackets) _ _ _ r.items c.args.at (c.args.at + 1) _ c.listed.ensures.shown c.spot.ensures r.spans (omega arith);
       reads = leads (λ s. past_items (of_list (array array_form.Brackets)) none s) (brackets_open o.token o.stands.is o.role_is c.requires.ready.deep) r.reads;
       edge_is = refl;
       opened = omega arith;

@@ -21,7 +21,7 @@ returns g c = λ f start spans low.
     let r = c.in_ok-source.ensures in
     record {
       form = assign by_reference f r.form;
-      spans = assign_spans c.args.tokens.now _ _ _ by_reference f r.form start c.args.left.next _ _ c.in_ok-referred.ensures spans r.spans (omega arith);
+      spans = assign_spans c.args.tokens.now _ _ _ by_reference f r.form start c.args.left.next _ _ c.in_ok-referred.ensures.shown spans r.spans (omega arith);
       reads = operator_reads (assign_open by_reference f) r.form (c.args.room - 1) 8 (omega arith) (omega arith) (omega arith) refl (λ h. refl) (λ d. omega arith)
           (reference_opens o.token u.token f o.stands.is o.role_is low u.stands.is u.role_is c.requires.ready.deep) r.reads r.rests;
       edge_is = omega (arith, r.edge_is);

@@ -19,7 +19,7 @@ returns g c = λ f start spans low.
     let r = c.in_ok-value.ensures in
     record {
       form = assign (by_value c.args.op) f r.form;
-      spans = assign_spans c.args.tokens.now _ _ _ (by_value c.args.op) f r.form start c.args.left.next _ _ c.in_ok-assigned.ensures spans r.spans refl;
+      spans = assign_spans c.args.tokens.now _ _ _ (by_value c.args.op) f r.form start c.args.left.next _ _ c.in_ok-assigned.ensures.shown spans r.spans refl;
       reads = operator_reads (assign_open (by_value c.args.op) f) r.form (c.args.room - 1) 8 (omega arith) (omega arith) (omega arith) refl (λ h. refl) (λ d. omega arith)
           (value_opens o.token c.args.op f o.stands.is o.role_is low c.requires.no_reference c.requires.ready.deep) r.reads r.rests;
       edge_is = omega (arith, r.edge_is);

@@ -30,7 +30,7 @@ returns g c = λ level near f start spans is.
     let r = c.in_ok-class.ensures in
     record {
       form = instance f r.form;
-      spans = instance_spans c.args.tokens.now _ _ _ f r.form start c.args.left.next _ c.in_ok-checked.ensures spans r.spans;
+      spans = instance_spans c.args.tokens.now _ _ _ f r.form start c.args.left.next _ c.in_ok-checked.ensures.shown spans r.spans;
       reads = instance_reads f r.form near (instance_opens o.token f o.stands.is o.role_is near (omega arith) c.requires.ready.deep) r.reads (r.call_is ∙ c.if-class.false) r.rests;
       edge_is = refl;
       rests = instance_rests (instance f r.form) _ refl;

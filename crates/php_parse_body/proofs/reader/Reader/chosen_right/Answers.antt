@@ -17,7 +17,7 @@ returns-in_ok-linked-in-Ok g c = λ f m start spans more.
     let r = c.in-Ok.ensures in
     record {
       form = choice f m r.form;
-      spans = choice_spans c.args.tokens.now _ _ _ _ f m r.form start c.args.left.next c.args.middle.next _ c.in_ok-linked-in-Ok.ensures spans more r.spans;
+      spans = choice_spans c.args.tokens.now _ _ _ _ f m r.form start c.args.left.next c.args.middle.next _ c.in_ok-linked-in-Ok.ensures.shown spans more r.spans;
       reads = operator_reads (else_open f m) r.form c.args.room 11 (omega arith) (omega arith) (omega arith) refl (λ h. refl) (λ d. omega arith)
           (else_begins f m e.token e.stands.is e.role_is c.requires.deep) r.reads r.rests;
       edge_is = omega (arith, r.edge_is);

@@ -22,7 +22,7 @@ returns g c =
     let e = c.if-not-ends_with.ensures.yes refl in
     record {
       form = enclosed tt emptiness r.form;
-      spans = enclosed_spans c.args.tokens.now emptiness _ _ _ r.form c.args.at _ _ c.in_ok-emptied.ensures c.spot.ensures r.spans (omega arith);
+      spans = enclosed_spans c.args.tokens.now emptiness _ _ _ r.form c.args.at _ _ c.in_ok-emptied.ensures.shown c.spot.ensures r.spans (omega arith);
       reads = enclosed_reads emptiness e.token (empty_opens o.token p.token o.stands.is o.role_is p.stands.is p.role_is c.requires.ready.deep) r.reads r.deep e.stands.is e.role_is;
       edge_is = refl;
       opened = omega arith;

@@ -11,7 +11,7 @@ returns-then-not-sees_paren g c =
     let o = c.requires.here in
     record {
       form = exit tt;
-      spans = record { shown = c.bare_exit.ensures ∙ ap exit c.spot.ensures; sized = omega arith };
+      spans = record { shown = c.bare_exit.ensures.shown ∙ ap exit c.spot.ensures; sized = omega arith };
       reads = exit_reads o.token o.stands.is o.role_is c.if-not-sees_paren.ensures c.requires.ready.deep;
       edge_is = refl;
       opened = omega arith;
@@ -38,7 +38,7 @@ returns-then-sees_right_paren g c =
     let e = c.if-sees_right_paren.ensures in
     record {
       form = exit_empty tt;
-      spans = record { shown = c.empty_exit.ensures ∙ ap exit_empty c.spot-then-sees_right_paren.ensures; sized = omega arith };
+      spans = record { shown = c.empty_exit.ensures.shown ∙ ap exit_empty c.spot-then-sees_right_paren.ensures; sized = omega arith };
       reads = exit_empty_reads o.token p.token e.token o.stands.is o.role_is p.stands.is p.role_is e.stands.is e.role_is (omega arith);
       edge_is = refl;
       opened = omega arith;
@@ -76,7 +76,7 @@ returns g c =
     let deep = c.requires.ready.deep in
     record {
       form = enclosed tt exiting r.form;
-      spans = enclosed_spans c.args.tokens.now exiting _ _ _ r.form c.args.at _ _ c.in_ok-exited.ensures c.spot-2.ensures r.spans (omega arith);
+      spans = enclosed_spans c.args.tokens.now exiting _ _ _ r.form c.args.at _ _ c.in_ok-exited.ensures.shown c.spot-2.ensures r.spans (omega arith);
       reads = enclosed_reads exiting e.token (exit_opens o.token p.token o.stands.is o.role_is p.stands.is p.role_is c.if-sees_right_paren.ensures deep) r.reads r.deep e.stands.is e.role_is;
       edge_is = refl;
       opened = omega arith;

@@ -10,6 +10,9 @@ use Rattle.php_parse_body.proofs.Moves.{leads}
 use Rattle.php_parse_body.proofs.Makes.{class_reads, steps_more, from_shown}
 use Rattle.std.proofs.Common.{map}
 use Rattle.php_parse_body.specs.Parts.{step_parts}
+use Rattle.php_ast.specs.PrintParts.{step_with}
+use Rattle.php_parse_body.specs.Flat.{shape, step_flat, are_flat_steps}
+use Rattle.php_parse_body.proofs.Flats.{all_push}
 use Rattle.php_parse_body.proofs.reader.Reader.found_class.Goals as goal
 
 pub loop-kind-init : goal.loop-kind-init
@@ -19,6 +22,7 @@ loop-kind-init g c =
       steps = from tt (token_at c.args.tokens.now c.args.at).text;
       shown = ap (λ l. steps_from (noted_steps (notes_of c.args.tokens.now) c.args.at (from (tt {0}) (token_at c.args.tokens.now c.args.at).text)) (map step_parts l)) c.new-steps.ensures;
       sized = omega arith;
+      flat = ap are_flat_steps c.new-steps.ensures;
       reads = class_reads o.token (class_found (from tt (token_at c.args.tokens.now c.args.at).text)) o.stands.is o.role_is c.requires.ready.deep;
       ahead = omega arith;
       within = omega (arith, o.stands.within);
@@ -38,6 +42,7 @@ loop-kind-preserved g c =
       steps = r.more v.steps;
       shown = steps_more c.args.tokens.now c.args.at _ v.steps (r.more v.steps) c.loop-kind.steps _ _ c.in_ok-push.ensures.ok v.shown (r.shown v.steps c.args.at v.sized);
       sized = omega (arith, v.sized, r.sized v.steps);
+      flat = all_push step_flat (step_with shape) c.loop-kind.steps _ _ c.in_ok-push.ensures.ok v.flat r.flat;
       reads = leads (λ s. past_class (class_found v.steps) s) v.reads (r.reads v.steps);
       ahead = omega (arith, v.ahead, r.ahead);
       within = r.within;
@@ -51,6 +56,7 @@ returns g c =
       class = class_found v.steps;
       shown = from_shown c.args.tokens.now c.args.at _ _ v.steps c.in_ok-name.ensures.noted c.in_ok-name.ensures.text c.loop-kind.steps v.shown;
       sized = v.sized;
+      flat = v.flat;
       reads = v.reads;
       no_index = λ h. d.0;
       no_arrow = λ h. d.1;

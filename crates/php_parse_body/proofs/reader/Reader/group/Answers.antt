@@ -21,7 +21,7 @@ returns g c =
     let e = c.if-not-ends_with.ensures.yes refl in
     record {
       form = enclosed tt parentheses r.form;
-      spans = enclosed_spans c.args.tokens.now parentheses _ _ _ r.form c.args.at _ _ c.in_ok-grouped.ensures c.spot.ensures r.spans (omega arith);
+      spans = enclosed_spans c.args.tokens.now parentheses _ _ _ r.form c.args.at _ _ c.in_ok-grouped.ensures.shown c.spot.ensures r.spans (omega arith);
       reads = enclosed_reads parentheses e.token (group_opens o.token o.stands.is o.role_is c.requires.ready.deep) r.reads r.deep e.stands.is e.role_is;
       edge_is = refl;
       opened = omega arith;

@@ -32,6 +32,7 @@ returns g c =
       more = λ steps. step_index steps r.form;
       shown = λ steps start sized. step_index_shown c.args.tokens.now steps _ r.form start c.args.at _ sized r.spans;
       sized = λ steps. omega (arith, r.spans.sized);
+      flat = c.in_ok-expr.field-0.flat;
       reads = λ steps. step_index_reads steps r.form e.token (step_opens o.token steps o.stands.is o.role_is c.requires.ready.deep) r.reads r.deep e.stands.is e.role_is;
       ahead = omega (arith, r.ahead);
       within = omega (arith, e.stands.within);

@@ -27,7 +27,7 @@ returns g c =
     let r = c.in_ok-values.ensures in
     record {
       form = listed tt isset r.items;
-      spans = listed_spans c.args.tokens.now isset _ _ _ r.items c.args.at (c.args.at + 1 + 1) _ c.tested.ensures c.spot.ensures r.spans (omega arith);
+      spans = listed_spans c.args.tokens.now isset _ _ _ r.items c.args.at (c.args.at + 1 + 1) _ c.tested.ensures.shown c.spot.ensures r.spans (omega arith);
       reads = leads (λ s. past_items (of_list isset) none s) (isset_opens o.token p.token o.stands.is o.role_is p.stands.is p.role_is c.requires.ready.deep) r.reads;
       edge_is = refl;
       opened = omega arith;

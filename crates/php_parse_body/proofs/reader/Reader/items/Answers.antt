@@ -11,6 +11,9 @@ use Rattle.std.proofs.Common.{map}
 use Rattle.php_ast.specs.View.{items_from}
 use Rattle.php_parse_body.specs.Parts.{item_parts}
 use Rattle.php_parse_body.specs.Answer.{no_items}
+use Rattle.php_ast.specs.PrintParts.{item_with}
+use Rattle.php_parse_body.specs.Flat.{shape, item_flat, are_flat_items}
+use Rattle.php_parse_body.proofs.Flats.{all_push, ended_flat}
 use Rattle.php_parse_body.proofs.reader.Reader.items.Goals as goal
 
 pub loop-form-init : goal.loop-form-init
@@ -18,6 +21,7 @@ loop-form-init g c = record {
   items = none;
   shown = ap (λ l. items_from none (map item_parts l)) c.new-items.ensures;
   sized = omega arith;
+  flat = ap are_flat_items c.new-items.ensures;
   none_is = sym (ap no_items c.new-items.ensures);
   reads = record { same = λ n s whole near at. refl };
   within = c.requires.within;
@@ -41,6 +45,7 @@ returns-then-ends_with g c =
     record {
       items = ended_items v.items;
       spans = ended_spans c.args.tokens.now c.args.at c.loop-form.next v.items c.loop-form.items _ v.none_is v.shown v.sized c.in_ok-ended.ensures.none c.in_ok-ended.ensures.some;
+      flat = ended_flat c.loop-form.items _ v.flat c.in_ok-ended.ensures.none c.in_ok-ended.ensures.some;
       reads = leads (λ s. past_items (of_list (array c.args.form)) v.items s) v.reads (end_reads e.token c.args.form v.items e.stands.is (e.role_is ∙ ap closes c.closer_of.ensures) (omega arith));
       ahead = omega (arith, v.sized);
       within = omega (arith, e.stands.within);
@@ -65,6 +70,7 @@ loop-form-preserved-then-ends_with-2 g c =
       items = skip v.items;
       shown = items_skip c.args.tokens.now c.args.at v.items c.loop-form.items _ c.in_ok-push.ensures.ok v.shown;
       sized = omega (arith, v.sized);
+      flat = all_push item_flat (item_with shape) c.loop-form.items _ _ c.in_ok-push.ensures.ok v.flat refl;
       none_is = sym (grown_some c.loop-form.items _ _ c.in_ok-push.ensures.ok);
       reads = leads (λ s. past_items (of_list (array c.args.form)) v.items s) v.reads (missing_reads e.token c.args.form v.items e.stands.is e.role_is (omega arith));
       within = omega (arith, e.stands.within);
@@ -87,6 +93,7 @@ returns-then-ends_with-3 g c =
         shown = items_more c.args.tokens.now c.args.at c.loop-form.next v.items i.lead i.form c.loop-form.items _ _ c.in_ok-push-2.ensures.ok v.shown v.sized i.shown;
         sized = omega (arith, v.sized, i.sized);
       };
+      flat = all_push item_flat (item_with shape) c.loop-form.items _ _ c.in_ok-push-2.ensures.ok v.flat i.flat;
       reads = leads (λ s. past_items (of_list (array c.args.form)) v.items s) v.reads (leads (λ s. holds i.form (items_open (of_list (array c.args.form)) v.items i.lead ∷ s)) (i.reads v.items)
           (array_reads e.token c.args.form v.items i.lead i.form e.stands.is (e.role_is ∙ ap closes c.closer_of-else-ends_with-2.ensures) i.deep));
       ahead = omega (arith, v.sized, i.ahead);
@@ -114,6 +121,7 @@ loop-form-preserved g c =
       items = and v.items i.lead i.form;
       shown = items_more c.args.tokens.now c.args.at c.loop-form.next v.items i.lead i.form c.loop-form.items _ _ c.in_ok-push-2.ensures.ok v.shown v.sized i.shown;
       sized = omega (arith, v.sized, i.sized);
+      flat = all_push item_flat (item_with shape) c.loop-form.items _ _ c.in_ok-push-2.ensures.ok v.flat i.flat;
       none_is = sym (grown_some c.loop-form.items _ _ c.in_ok-push-2.ensures.ok);
       reads = leads (λ s. past_items (of_list (array c.args.form)) v.items s) v.reads (leads (λ s. holds i.form (items_open (of_list (array c.args.form)) v.items i.lead ∷ s)) (i.reads v.items)
           (comma_reads e.token (of_list (array c.args.form)) v.items i.lead i.form e.stands.is e.role_is i.deep));

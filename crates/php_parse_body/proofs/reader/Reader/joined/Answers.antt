@@ -26,7 +26,7 @@ returns g c = λ f start spans is.
     let r = c.in_ok-right.ensures in
     record {
       form = binary c.args.op f r.form;
-      spans = binary_spans c.args.tokens.now _ _ _ c.args.op f r.form start c.args.left.next _ c.in_ok-joined.ensures spans r.spans;
+      spans = binary_spans c.args.tokens.now _ _ _ c.args.op f r.form start c.args.left.next _ c.in_ok-joined.ensures.shown spans r.spans;
       reads = operator_reads (binary_open c.args.op f) r.form (c.args.room - right_depth (binary_row c.args.op).grouping) (right (binary_row c.args.op)) (omega (arith, b.1, binary_bound c.args.op)) (omega (arith, b.0)) (omega (arith, b.1, binary_bound c.args.op)) refl (λ h. refl) (λ d. omega (arith, b.2))
           (binary_opens o.token c.args.op f o.stands.is o.role_is c.requires.near (omega arith) c.requires.ready.deep) r.reads r.rests;
       edge_is = omega (arith, r.edge_is);

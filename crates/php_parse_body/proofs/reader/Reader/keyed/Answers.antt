@@ -8,6 +8,7 @@ use Rattle.php_ast.specs.Placed.{size, noted, notes_of}
 use Rattle.php_ast.specs.Machine.{of_list, items_open}
 use Rattle.php_parse_body.proofs.Enters.{value_enters}
 use Rattle.php_parse_body.proofs.Listings.{keyed_reference_opens, item_in}
+use Rattle.php_parse_body.proofs.Flats.{both}
 use Rattle.php_parse_body.proofs.reader.Reader.keyed.Goals as goal
 
 pub returns-in_err-expr : goal.returns-in_err-expr
@@ -29,6 +30,7 @@ returns-then-sees_ampersand g c =
       lead_sized = λ k. omega arith;
       keyed = λ k. refl;
       sized = r.spans.sized;
+      flat = both c.requires.flat c.in_ok-expr.field-0.flat;
       reads = λ form items k. item_in (of_list (array form)) items (keyed_reference k) r.form (keyed_reference_opens o.token form items k o.stands.is o.role_is c.requires.deep) r.reads c.requires.ready.deep;
       rests = r.rests;
       ahead = omega (arith, r.ahead);
@@ -52,6 +54,7 @@ returns g c =
       lead_sized = λ k. omega arith;
       keyed = λ k. refl;
       sized = omega (arith, r.spans.sized);
+      flat = both c.requires.flat c.in_ok-expr-2.field-0.flat;
       reads = λ form items k. item_in (of_list (array form)) items (keyed k) r.form (value_enters (of_list (array form)) items k c.if-sees_ampersand.ensures) r.reads c.requires.ready.deep;
       rests = r.rests;
       ahead = omega (arith, r.ahead);

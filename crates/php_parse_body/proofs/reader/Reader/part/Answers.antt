@@ -32,6 +32,7 @@ returns g c =
       form = r.form;
       shown = λ pieces. ap (tree.value pieces) r.spans.shown;
       sized = omega (arith, r.spans.sized);
+      flat = c.in_ok-expr.field-0.flat;
       reads = λ pieces. part_reads pieces r.form e.token (part_opens o.token pieces o.stands.is o.role_is c.requires.ready.deep) r.reads r.deep e.stands.is e.role_is;
       ahead = omega (arith, r.ahead);
       within = omega (arith, e.stands.within);

@@ -8,6 +8,9 @@ use Rattle.php_parse_body.proofs.Makes.{bytes_read, bytes_more, parts_more, temp
 use Rattle.std.proofs.Common.{map}
 use Rattle.php_ast.specs.View.{pieces_from}
 use Rattle.php_parse_body.specs.Parts.{piece_parts}
+use Rattle.php_ast.specs.PrintParts.{piece_with}
+use Rattle.php_parse_body.specs.Flat.{shape, piece_flat, are_flat_pieces}
+use Rattle.php_parse_body.proofs.Flats.{all_push}
 use Rattle.php_parse_body.proofs.reader.Reader.pieces.Goals as goal
 
 pub loop-items-init : goal.loop-items-init
@@ -15,6 +18,7 @@ loop-items-init g c = record {
   pieces = no_piece;
   shown = ap (λ l. pieces_from no_piece (map piece_parts l)) c.new-items.ensures;
   sized = omega arith;
+  flat = ap are_flat_pieces c.new-items.ensures;
   reads = record { same = λ n s whole near at. refl };
   within = c.requires.within;
 }
@@ -27,6 +31,7 @@ loop-items-preserved-in-Bytes g c =
       pieces = bytes v.pieces _;
       shown = bytes_more c.args.tokens.now c.args.at v.pieces _ c.loop-items.items _ _ c.in_ok-push-in-Bytes.ensures.ok v.shown c.in_ok-text_at-in-Bytes.ensures;
       sized = omega (arith, v.sized);
+      flat = all_push piece_flat (piece_with shape) c.loop-items.items _ _ c.in_ok-push-in-Bytes.ensures.ok v.flat refl;
       reads = leads (λ s. past_template v.pieces s) v.reads (bytes_read m.token v.pieces _ m.stands.is m.role_is c.requires.ready.deep);
       within = omega (arith, m.stands.within);
     }
@@ -45,6 +50,7 @@ loop-items-preserved g c =
       pieces = value v.pieces r.form;
       shown = parts_more c.args.tokens.now c.args.at c.loop-items.next v.pieces r.form c.loop-items.items _ _ c.in_ok-push-in-Opened.ensures.ok v.shown v.sized r.shown;
       sized = omega (arith, v.sized, r.sized);
+      flat = all_push piece_flat (piece_with shape) c.loop-items.items _ _ c.in_ok-push-in-Opened.ensures.ok v.flat r.flat;
       reads = leads (λ s. past_template v.pieces s) v.reads (r.reads v.pieces);
       within = r.within;
     }
@@ -57,6 +63,7 @@ returns-in-Over g c =
       pieces = v.pieces;
       shown = v.shown;
       sized = omega (arith, v.sized);
+      flat = v.flat;
       reads = leads (λ s. past_template v.pieces s) v.reads (template_reads m.token v.pieces m.stands.is m.role_is c.requires.ready.deep);
       ahead = omega (arith, v.sized);
       within = omega (arith, m.stands.within);

@@ -37,7 +37,7 @@ returns-in_ok-counted-in-Some-Counts g c =
     let d = rw c.in-Some-Counts.field-0-is at (rw c.in-Some-Counts.is at c.change_at.ensures) in
     record {
       form = counted r.form c.in-Some-Counts.count;
-      spans = counted_spans c.args.tokens.now _ _ c.in-Some-Counts.count r.form c.args.at _ c.in_ok-counted-in-Some-Counts.ensures r.spans;
+      spans = counted_spans c.args.tokens.now _ _ c.in-Some-Counts.count r.form c.args.at _ c.in_ok-counted-in-Some-Counts.ensures.shown r.spans;
       reads = leads (λ s. after r.form s) (weaken (omega arith) r.reads) (leads (λ s. holds r.form s) (settle r.form _ (omega arith)) (draw d.token (counts c.in-Some-Counts.count) r.form d.stands.is d.role_is (omega arith) (omega (arith, r.opened)) c.requires.ready.deep));
       edge_is = refl;
       rests = rests_same 50 _;

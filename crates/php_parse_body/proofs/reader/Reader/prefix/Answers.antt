@@ -22,7 +22,7 @@ returns g c =
     let bound = prefix_bound c.args.op in
     record {
       form = prefix tt c.args.op r.form;
-      spans = prefix_spans c.args.tokens.now _ _ _ c.args.op r.form c.args.at _ c.in_ok-prefixed.ensures c.spot.ensures r.spans;
+      spans = prefix_spans c.args.tokens.now _ _ _ c.args.op r.form c.args.at _ c.in_ok-prefixed.ensures.shown c.spot.ensures r.spans;
       reads = operator_reads (prefix_open c.args.op) r.form (c.args.room - 1) (c.prefix_power_of-power.result + 1) (omega arith) (omega arith) (omega (arith, prefix_bound c.args.op)) (omega arith) (λ h. refl) (λ d. omega arith)
           (prefix_opens o.token c.args.op o.stands.is o.role_is c.requires.ready.deep) r.reads r.rests;
       edge_is = omega (arith, r.edge_is);

@@ -21,7 +21,7 @@ returns g c = λ f start spans is.
     let r = c.in_ok-right.ensures in
     record {
       form = short_choice f r.form;
-      spans = short_spans c.args.tokens.now _ _ _ f r.form start c.args.left.next _ c.in_ok-linked.ensures spans r.spans;
+      spans = short_spans c.args.tokens.now _ _ _ f r.form start c.args.left.next _ c.in_ok-linked.ensures.shown spans r.spans;
       reads = operator_reads (short_open f) r.form c.args.room 11 (omega arith) (omega arith) (omega arith) refl (λ h. refl) (λ d. omega arith)
           (short_opens o.token u.token f o.stands.is o.role_is c.requires.near (omega arith) u.stands.is u.role_is c.requires.ready.deep) r.reads r.rests;
       edge_is = omega (arith, r.edge_is);

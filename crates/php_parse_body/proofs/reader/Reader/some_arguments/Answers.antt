@@ -9,6 +9,9 @@ use Rattle.php_parse_body.proofs.Listings.{comma_reads, paren_reads, item_unclos
 use Rattle.std.proofs.Common.{map}
 use Rattle.php_ast.specs.View.{arguments_from}
 use Rattle.php_parse_body.specs.Parts.{argument_parts}
+use Rattle.php_ast.specs.PrintParts.{argument_with}
+use Rattle.php_parse_body.specs.Flat.{shape, argument_flat, are_flat_arguments}
+use Rattle.php_parse_body.proofs.Flats.{all_push}
 use Rattle.php_parse_body.proofs.reader.Reader.some_arguments.Goals as goal
 
 pub loop-items-init : goal.loop-items-init
@@ -16,6 +19,7 @@ loop-items-init g c = record {
   items = none;
   shown = ap (λ l. arguments_from none (map argument_parts l)) c.new-items.ensures;
   sized = omega arith;
+  flat = ap are_flat_arguments c.new-items.ensures;
   reads = λ h is. record { same = λ n s whole near at. refl };
   no_end = c.requires.no_end;
   within = c.requires.within;
@@ -38,6 +42,7 @@ returns-then-ends_with g c =
         shown = arguments_more c.args.tokens.now c.args.at c.loop-items.next v.items i.lead i.form c.loop-items.items _ _ c.in_ok-push.ensures.ok v.shown v.sized i.shown;
         sized = omega (arith, v.sized, i.sized);
       };
+      flat = all_push argument_flat (argument_with shape) c.loop-items.items _ _ c.in_ok-push.ensures.ok v.flat i.flat;
       reads = λ h is. leads (λ s. past_items h v.items s) (v.reads h is) (leads (λ s. holds i.form (items_open h v.items i.lead ∷ s)) (i.reads h v.items is)
           (paren_reads e.token h v.items i.lead i.form e.stands.is e.role_is (arguments_paren h is) i.deep));
       ahead = omega (arith, v.sized, i.ahead);
@@ -83,6 +88,7 @@ loop-items-preserved g c =
       items = and v.items i.lead i.form;
       shown = arguments_more c.args.tokens.now c.args.at c.loop-items.next v.items i.lead i.form c.loop-items.items _ _ c.in_ok-push.ensures.ok v.shown v.sized i.shown;
       sized = omega (arith, v.sized, i.sized);
+      flat = all_push argument_flat (argument_with shape) c.loop-items.items _ _ c.in_ok-push.ensures.ok v.flat i.flat;
       reads = λ h is. leads (λ s. past_items h v.items s) (v.reads h is) (leads (λ s. holds i.form (items_open h v.items i.lead ∷ s)) (i.reads h v.items is)
           (comma_reads e.token h v.items i.lead i.form e.stands.is e.role_is i.deep));
       no_end = c.if-ends_with-2.ensures.no refl;

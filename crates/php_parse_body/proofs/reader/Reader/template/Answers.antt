@@ -19,7 +19,7 @@ returns g c =
     let r = c.in_ok-pieces.ensures in
     record {
       form = template tt r.pieces;
-      spans = template_spans c.args.tokens.now _ _ _ r.pieces c.args.at _ c.templated.ensures c.spot.ensures r.shown (omega (arith, r.sized));
+      spans = template_spans c.args.tokens.now _ _ _ r.pieces c.args.at _ c.templated.ensures.shown c.spot.ensures r.shown (omega (arith, r.sized));
       reads = leads (λ s. past_template no_piece s) (quote_begins o.token o.stands.is o.role_is c.requires.ready.deep) r.reads;
       edge_is = refl;
       opened = omega arith;

@@ -8,6 +8,8 @@ use Rattle.php_parse_body.proofs.Moves.{leads, leads_halts}
 use Rattle.php_parse_body.proofs.Listings.{value_opens, item_in, comma_reads, paren_reads, item_unclosed, values_more}
 use Rattle.std.proofs.Common.{map}
 use Rattle.php_ast.specs.View.{view, values_from}
+use Rattle.php_parse_body.specs.Flat.{Shape, shape, are_flat}
+use Rattle.php_parse_body.proofs.Flats.{all_push}
 use Rattle.php_parse_body.proofs.reader.Reader.values.Goals as goal
 
 pub loop-items-init : goal.loop-items-init
@@ -15,6 +17,7 @@ loop-items-init g c = record {
   items = none;
   shown = ap (λ l. values_from none (map view l)) c.new-items.ensures;
   sized = omega arith;
+  flat = ap are_flat c.new-items.ensures;
   reads = record { same = λ n s whole near at. refl };
   within = c.requires.within;
 }
@@ -38,6 +41,7 @@ returns-then-ends_with g c =
         shown = values_more c.args.tokens.now c.args.at c.loop-items.next v.items i.form c.loop-items.items _ _ c.in_ok-push.ensures.ok v.shown v.sized i.spans.shown;
         sized = omega (arith, v.sized, i.spans.sized);
       };
+      flat = all_push (λ (e : Shape). e.flat) shape c.loop-items.items _ _ c.in_ok-push.ensures.ok v.flat c.in_ok-value.value.flat;
       reads = leads (λ s. past_items (of_list isset) v.items s) v.reads (leads (λ s. holds i.form (items_open (of_list isset) v.items plain ∷ s)) (item_in (of_list isset) v.items plain i.form (value_opens v.items) i.reads c.requires.ready.deep)
           (paren_reads e.token (of_list isset) v.items plain i.form e.stands.is e.role_is refl (omega (arith, i.deep))));
       ahead = omega (arith, v.sized, i.ahead);
@@ -69,6 +73,7 @@ loop-items-preserved g c =
       items = and v.items plain i.form;
       shown = values_more c.args.tokens.now c.args.at c.loop-items.next v.items i.form c.loop-items.items _ _ c.in_ok-push.ensures.ok v.shown v.sized i.spans.shown;
       sized = omega (arith, v.sized, i.spans.sized);
+      flat = all_push (λ (e : Shape). e.flat) shape c.loop-items.items _ _ c.in_ok-push.ensures.ok v.flat c.in_ok-value.value.flat;
       reads = leads (λ s. past_items (of_list isset) v.items s) v.reads (leads (λ s. holds i.form (items_open (of_list isset) v.items plain ∷ s)) (item_in (of_list isset) v.items plain i.form (value_opens v.items) i.reads c.requires.ready.deep)
           (comma_reads e.token (of_list isset) v.items plain i.form e.stands.is e.role_is (omega (arith, i.deep))));
       within = omega (arith, e.stands.within);

@@ -27,7 +27,7 @@ returns g c =
     let r = c.in_ok-items.ensures in
     record {
       form = listed tt (array c.args.form) r.items;
-      spans = listed_spans c.args.tokens.now (array c.args.form) _ _ _ r.items c.args.at (c.args.at + 1 + 1) _ c.listed.ensures c.spot.ensures r.spans (omega (arith, word_size c.args.form c.requires.word));
+      spans = listed_spans c.args.tokens.now (array c.args.form) _ _ _ r.items c.args.at (c.args.at + 1 + 1) _ c.listed.ensures.shown c.spot.ensures r.spans (omega (arith, word_size c.args.form c.requires.word));
       reads = leads (λ s. past_items (of_list (array c.args.form)) none s) (word_opens o.token p.token c.args.form o.stands.is o.role_is c.requires.word p.stands.is p.role_is c.requires.ready.deep) r.reads;
       edge_is = refl;
       opened = omega arith;

@@ -19,7 +19,7 @@ returns g c = λ k spans.
     let r = c.in_ok-value.ensures in
     record {
       form = yield_pair tt k r.form;
-      spans = pair_spans c.args.tokens.now _ _ _ _ k r.form c.args.at c.args.key.next _ c.in_ok-yielded_pair.ensures c.spot.ensures spans r.spans;
+      spans = pair_spans c.args.tokens.now _ _ _ _ k r.form c.args.at c.args.key.next _ c.in_ok-yielded_pair.ensures.shown c.spot.ensures spans r.spans;
       reads = operator_reads (yield_value_open k) r.form (c.args.room - 1) 8 (omega arith) (omega arith) (omega arith) refl (λ h. refl) (λ d. omega arith)
           (pair_opens o.token k o.stands.is o.role_is c.requires.deep) r.reads r.rests;
       edge_is = omega (arith, r.edge_is);

@@ -17,7 +17,7 @@ returns-then-yields_nothing g c =
     let alone = sym c.yields_nothing.ensures ∙ c.if-yields_nothing.true in
     record {
       form = yield_nothing tt;
-      spans = record { shown = c.yielded_nothing.ensures ∙ ap yield_nothing c.spot.ensures; sized = omega arith };
+      spans = record { shown = c.yielded_nothing.ensures.shown ∙ ap yield_nothing c.spot.ensures; sized = omega arith };
       reads = yield_nothing_reads o.token o.stands.is o.role_is alone c.requires.ready.deep;
       edge_is = refl;
       rests = inl (yield_ends_low (head_continuation (rest c.args.tokens.now (c.args.at + 1))) alone);
@@ -50,7 +50,7 @@ returns g c =
     let shut = c.if-ends_with.ensures.no refl in
     record {
       form = yield_value tt r.form;
-      spans = yield_spans c.args.tokens.now _ _ _ r.form c.args.at _ c.in_ok-yielded.ensures c.spot-2.ensures r.spans;
+      spans = yield_spans c.args.tokens.now _ _ _ r.form c.args.at _ c.in_ok-yielded.ensures.shown c.spot-2.ensures r.spans;
       reads = operator_reads yield_open r.form (c.args.room - 1) 8 (omega arith) (omega arith) (omega arith) refl (λ h. absurd (shut (arrow_is _ h))) (λ d. omega arith)
           (yield_opens o.token o.stands.is o.role_is (sym c.yields_nothing.ensures ∙ c.if-yields_nothing.false) c.requires.ready.deep) r.reads r.rests;
       edge_is = omega (arith, r.edge_is);
