@@ -1,7 +1,7 @@
 // Work on the slots of an array, by their places.
 ghost use Rattle.std.specs.Prelude.{◌≡◌, ℕ, ◌+◌, ◌-◌, ◌^◌, ◌<◌, ◌≤◌, List, [], ◌∷◌, ◌++◌, drop, length, IsTrue, IfSome, IfNone, Some, None};
 ghost use Rattle.php_array.specs.Answers.{shown_entry};
-ghost use Rattle.php_array.specs.Slot.{Slot, Live, slot_of};
+ghost use Rattle.php_array.specs.Slot.{Slot, slot_of};
 ghost use Rattle.php_array.specs.Slots.{serial_at, stored_in, stored_at, entries_in, AreHoles, DoSerialsRise, HoldsSame};
 
 use crate::slots::Slots;
