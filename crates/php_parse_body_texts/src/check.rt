@@ -2,9 +2,10 @@
 
 ghost use Rattle.std.specs.Prelude.{◌≤◌, length};
 
-use crate::printer::print;
+use crate::printer::print_last;
+use php_ast::Expr;
 use php_lex::lex;
-use php_parse_body::parse_expr;
+use php_parse_body::{ParseFail, parse_expr};
 use std::alloc::Global;
 use std::process::Abort;
 use std::test::Fail;
@@ -13,17 +14,23 @@ use std::test::Fail;
 /// token behind it, or the refusal with its place and line.
 pub(crate) type Row = (&'static str, &'static str);
 
+fn tree_before(alloc: Global, e: Expr, next: usize) -> Result<String, Fail> {
+    let tree = print_last(alloc, e, 300)?;
+    Ok(format!(in alloc; "{tree} @{next}")?)
+}
+
+fn refused(alloc: Global, refusal: ParseFail) -> Result<String, Fail> {
+    Ok(format!(in alloc; "{refusal:?}")?)
+}
+
 fn answer(alloc: Global, script: &[u8], depth: u32) -> Result<String, Fail>
     requires short { length script.now ≤ 1048576 }
     requires shallow { depth ≤ 128 }
 {
     let tokens = lex(alloc, script)?;
     match parse_expr(alloc, &tokens, 0, depth) {
-        Ok((e, next)) => {
-            let tree = print(alloc, &e, 300)?;
-            Ok(format!(in alloc; "{tree} @{next}")?)
-        }
-        Err(refusal) => Ok(format!(in alloc; "{refusal:?}")?),
+        Ok((e, next)) => tree_before(alloc, e, next),
+        Err(refusal) => refused(alloc, refusal),
     }
 }
 

@@ -18,6 +18,12 @@ pub(crate) fn print(alloc: Global, e: &Expr, depth: usize) -> Result<String, All
     Ok(printer.out)
 }
 
+/// The same of a tree that nobody needs any more. It is let go of in one place, since letting go of a tree takes the
+/// check long.
+pub(crate) fn print_last(alloc: Global, e: Expr, depth: usize) -> Result<String, AllocError> {
+    print(alloc, &e, depth)
+}
+
 #[derive(Drop)]
 struct Printer {
     alloc: Global,
