@@ -1,5 +1,5 @@
 // The slots of an array, in the order in which their entries were made.
-ghost use Rattle.std.specs.Prelude.{◌≡◌, ◌<◌, ◌≤◌, ◌++◌, [], ◌∷◌, ◌↔◌, take, drop, length, IsTrue, IsSome, IfSome, IfNone, OnOk, Some, None, is_some, option_copied, option_map, vec_len, vec_capacity};
+ghost use Rattle.std.specs.Prelude.{◌≡◌, ◌<◌, ◌≤◌, ◌++◌, [], ◌∷◌, ◌↔◌, take, drop, length, IsTrue, IsSome, IfSome, IfNone, OnOk, Some, None, is_some, option_copied, option_map, vec_len};
 ghost use Rattle.std.specs.List.{swap};
 ghost use Rattle.std.specs.Option.Follows.{option_follows_value};
 ghost use Rattle.std.specs.Borrow.{Lends, sem};
@@ -12,26 +12,6 @@ use php_value::Key;
 use std::alloc::Global;
 use std::marker::Model;
 use std::mem;
-
-/// Below this length a vector that is full doubles; from it on it grows fourfold.
-const LONG: usize = 8192;
-
-/// Makes room for a further element. Two vectors that grow in turn can seldom grow where they stand, and
-/// long ones move less often by larger steps. Where so much memory can't be had, a smaller step is taken.
-fn grow<T>(elements: &mut Vec<T>) -> Result<(), NoMemory>
-    ensures items { elements.new.items ≡ elements.old.items }
-    ensures ok { OnOk result (vec_len elements.new < vec_capacity elements.new) }
-{
-    let count = elements.len();
-    if count < elements.capacity() {
-        return Ok(());
-    }
-    if count >= LONG && elements.reserve(count.saturating_mul(3)).is_ok() {
-        return Ok(());
-    }
-    elements.reserve(1)?;
-    Ok(())
-}
 
 /// What a slot has beside its value.
 #[derive(Drop)]
@@ -180,8 +160,10 @@ impl<T> Slots<T> {
         ensures items { self.new.items ≡ self.old.items }
         ensures ok { OnOk result (length self.new.items < self.new.room) }
     {
-        grow(&mut self.heads)?;
-        grow(&mut self.values)?;
+        // Values take less memory, and of two vectors that grow in turn the one that moves last can grow
+        // where it stands the next time.
+        self.values.reserve(1)?;
+        self.heads.reserve(1)?;
         Ok(())
     }
 
