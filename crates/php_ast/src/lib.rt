@@ -28,7 +28,10 @@ pub use declaration::{
 pub use expression::{Argument, Class, ClassStep, Expr, Item, Link, Member, Named, Piece, Suffix};
 pub use operator::{ArrayForm, Assign, Binary, Count, Magic, Prefix};
 pub use php_first_tree as first_path;
-pub use power::{Grouping, Row, prefix_power_of, row_of};
+pub use power::{
+    Grouping, Row, power_of_yield, prefix_power_of, row_of, row_of_assignment, row_of_choice,
+    row_of_instanceof,
+};
 pub use print::{print_expr, print_script, print_stmt};
 pub use print_text::lay_out;
 pub use printed::Printed;

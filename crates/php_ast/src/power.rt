@@ -1,7 +1,7 @@
 // The table of powers: how tightly operators bind.
 
 ghost use Rattle.std.specs.Prelude.{◌≡◌};
-ghost use Rattle.php_ast.specs.Power.{binary_row, prefix_power};
+ghost use Rattle.php_ast.specs.Power.{assign_row, binary_row, choice_row, instance_row, prefix_power, yield_power};
 ghost use Rattle.php_ast.specs.PowerView.{row_view};
 
 use crate::operator::{Binary, Prefix};
@@ -50,6 +50,34 @@ pub fn row_of(op: Binary) -> Row
         Binary::WordXor => to_left(4),
         Binary::WordOr => to_left(2),
     }
+}
+
+/// The row of `? :` and `?:`.
+pub fn row_of_choice() -> Row
+    ensures { row_view result ≡ choice_row }
+{
+    to_left(10)
+}
+
+/// The row of `instanceof`.
+pub fn row_of_instanceof() -> Row
+    ensures { row_view result ≡ instance_row }
+{
+    ungrouped(36)
+}
+
+/// The row of `=` and the operators with `=`.
+pub fn row_of_assignment() -> Row
+    ensures { row_view result ≡ assign_row }
+{
+    to_right(8)
+}
+
+/// The power of `yield` with a value.
+pub fn power_of_yield() -> u8
+    ensures { result ≡ yield_power }
+{
+    7
 }
 
 /// The power of a prefix operator.

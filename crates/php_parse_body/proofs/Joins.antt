@@ -16,9 +16,8 @@ use Rattle.php_ast.specs.View.{Note}
 use Rattle.php_ast.specs.Placed.{size, setting_size, noted, notes_of}
 use Rattle.php_parse_body.specs.declared.fail.Stop.{Stop}
 use Rattle.php_parse_body.specs.declared.fail.Stop.TheVariants.{Syntax, TooDeep, NoMemory}
-use Rattle.std.proofs.Common.{Result}
 use Rattle.php_parse_body.specs.declared.reader.Read.{Read}
-use Rattle.php_parse_body.specs.Answer.{Spans, Fails, AnswersHere, AnswersRight}
+use Rattle.php_parse_body.specs.Answer.{Spans, Fails}
 use Rattle.php_ast.specs.Nesting.{right_depth}
 use Rattle.php_ast.specs.Power.{Grouping, to_left, to_right, ungrouped, binary_row, choice_row, assign_row, prefix_power}
 use Rattle.php_ast.specs.Proper.{ends, edge, right, is_call}
@@ -135,11 +134,6 @@ right_bounds binary_op.Power = (omega arith, omega arith, omega arith)
 right_bounds binary_op.Coalesced = (omega arith, omega arith, omega arith)
 right_bounds binary_op.Times = (omega arith, omega arith, omega arith)
 right_bounds _ = (omega arith, omega arith, omega arith)
-
-pub right_answers : (op : Binary) (room inner level : ℕ) (tokens : List Token) (at : ℕ) (r : Result Read Stop) → level ≡ right (binary_row op) → inner ≡ room - right_depth (binary_row op).grouping
-    → AnswersHere inner level level tokens at r → AnswersRight op room tokens at r
-right_answers op room inner level tokens at r level_is inner_is h =
-    subst (λ k. AnswersHere (room - right_depth (binary_row op).grouping) k k tokens at r) level_is (subst (λ k. AnswersHere k level level tokens at r) inner_is h)
 
 pub binary_opens : {room level : ℕ} {x w : List Symbol} (t : Symbol) (op : Binary) (f : Form) → x ≡ t ∷ w → continuation t ≡ draws (joins op) → level ≤ (binary_row op).power → (binary_row op).power < ends f → 1 ≤ room
     → Leads room level (λ s. holds f s) x (λ s. expects (binary_open op f ∷ s)) w

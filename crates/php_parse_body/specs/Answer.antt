@@ -92,18 +92,15 @@ AnswersHere room level least tokens at r = Answers room level least (λ s. expec
 
 -- ---- the parser as a value
 
-abbrev pub rank : ℕ → ℕ → ℕ
-rank room level = 200 * room + (100 - level)
-
--- A function value that reads expressions of a rank below a bound.
+-- A function value that reads expressions with less than so many levels of nesting left.
 pub record Nests (bound : ℕ) (pre : Global → Bor (List Token) → ℕ → ℕ → ℕ → Type 0) (post : Global → Bor (List Token) → ℕ → ℕ → ℕ → Result Read Stop → Type 0) : Type 0 where
-  pub callable : (alloc : Global) (ts : Bor (List Token)) (at level room : ℕ) → at ≤ length ts.now → 1 ≤ level → level ≤ 50 → room ≤ 129 → rank room level < bound → pre alloc ts at level room
+  pub callable : (alloc : Global) (ts : Bor (List Token)) (at level room : ℕ) → at ≤ length ts.now → 1 ≤ level → level ≤ 50 → room ≤ 129 → room < bound → pre alloc ts at level room
   pub reads : (alloc : Global) (ts : Bor (List Token)) (at level room : ℕ) (r : Result Read Stop) → post alloc ts at level room r → AnswersHere room level level ts.now at r
 
 -- One that reads what is one level deeper.
 pub record Ready (bound room : ℕ) (pre : Global → Bor (List Token) → ℕ → ℕ → ℕ → Type 0) (post : Global → Bor (List Token) → ℕ → ℕ → ℕ → Result Read Stop → Type 0) : Type 0 where
   pub nests : Nests bound pre post
-  pub below : 200 * room ≤ bound
+  pub below : room ≤ bound
   pub deep : 1 ≤ room
   pub shallow : room ≤ 129
 
@@ -344,17 +341,6 @@ AnswersYield key room tokens at r =
 abbrev pub AnswersBehind : Read → ℕ → ℕ → List Token → Result Read Stop → Type 0
 AnswersBehind left level room tokens r =
     (f : Form) (start : ℕ) → Spans tokens (view left.expr) f start left.next → ends f ≡ left.edge → Answers room level 50 (λ s. holds f s) (rest tokens left.next) tokens start left.next r
-
--- the right side of a `? :` behind its left side and its middle
-abbrev pub AnswersElse : Read → Read → ℕ → ℕ → List Token → Result Read Stop → Type 0
-AnswersElse left middle level room tokens r =
-    (f m : Form) (start : ℕ) → Spans tokens (view left.expr) f start left.next → Spans tokens (view middle.expr) m (left.next + 1) middle.next
-    → Answers room level 50 (λ s. holds m (then_open f ∷ s)) (rest tokens middle.next) tokens start middle.next r
-
--- the right side of an operator
-abbrev pub AnswersRight : Binary → ℕ → List Token → ℕ → Result Read Stop → Type 0
-AnswersRight op room tokens at r =
-    Answers (room - right_depth (binary_row op).grouping) (right (binary_row op)) (right (binary_row op)) (λ s. expects s) (rest tokens at) tokens at at r
 
 -- whether `static` stands alone
 abbrev pub SeesStatic : List Token → ℕ → Opening → Bool → Type 0

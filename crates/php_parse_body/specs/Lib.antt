@@ -5,3 +5,5 @@ pub mod Answer
 pub mod Parts
 pub mod Flat
 pub mod Exact
+pub mod BetweenView
+pub mod Climb

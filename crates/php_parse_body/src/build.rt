@@ -10,7 +10,7 @@ ghost use Rattle.php_parse_body.specs.Flat.{are_flat, are_flat_arguments, are_fl
 
 use php_ast::{
     Argument, ArrayForm, Assign, Binary, Class, Count, Expr, Grouping, Item, Link, Member, Named,
-    Piece, Prefix, Spot, Suffix, row_of,
+    Piece, Prefix, Spot, Suffix, row_of, row_of_choice,
 };
 use sqlite_items::{Boxed, Items};
 use std::alloc::{AllocError, Global};
@@ -235,7 +235,7 @@ fn power_of(link: &Link<Expr>) -> u8
 {
     match link {
         Link::Operator(op, _) => row_of(*op).power,
-        Link::Choice(..) | Link::ShortChoice(_) => 10,
+        Link::Choice(..) | Link::ShortChoice(_) => row_of_choice().power,
     }
 }
 

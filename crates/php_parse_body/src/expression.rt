@@ -1,13 +1,15 @@
 // Whole expressions: what stands first, and the operators behind it.
 
-ghost use Rattle.std.specs.Prelude.{◌≡◌, ◌≤◌, ◌<◌, ◌+◌, ◌-◌, ◌*◌, ℕ, length, true, false};
-ghost use Rattle.php_parse_body.specs.Answer.{AnswersHere, AnswersNone, Nests, Ready, SeesInfix, rank};
+ghost use Rattle.std.specs.Prelude.{◌≡◌, ◌≤◌, ◌<◌, ◌+◌, ◌-◌, ℕ, length};
+ghost use Rattle.php_parse_body.specs.Answer.{AnswersHere, AnswersNone, Ready, SeesInfix};
 
 use crate::fail::Stop;
 use crate::look::{next_at, start_at};
+use crate::pending::Step;
 use crate::reader::{Read, Reader};
 use crate::sign::{Infix, Next, Start, infix_strength};
 use php_lex::Tokens;
+use sqlite_items::Items;
 use std::alloc::Global;
 
 /// The operator at a place that goes on with an expression which is open to what draws less than `edge`, among
@@ -38,20 +40,37 @@ fn sunk(tokens: &Tokens, at: usize) -> Stop
 }
 
 impl<F: Fn(Global, &Tokens, usize, u8, usize) -> Result<Read, Stop>> Reader<F> {
-    /// The expression that begins at a place, of operators of a power of at least `level`.
+    /// The expression that begins at a place, of operators of a power of at least `level`. An operator whose right side
+    /// is as deep as itself waits in a list while that is read.
     fn climb(&self, tokens: &Tokens, at: usize, level: u8, room: usize) -> Result<Read, Stop>
         requires ready { Ready self.now.bound room (F.pre self.now.expr) (F.post self.now.expr) }
         requires within { at ≤ length tokens.now }
         requires some { 1 ≤ level }
         requires small { level ≤ 50 }
-        requires rank { rank room level ≡ self.now.bound }
         ensures { AnswersHere room level level tokens.now at result }
     {
+        let mut pending = Items::new(self.alloc);
+        let mut inner = level;
         let mut read = self.first(tokens, at, room)?;
-        while let Some(op) = operator_at(tokens, read.next, level, read.edge) {
-            read = self.link(tokens, read, op, level, room)?;
+        loop {
+            match operator_at(tokens, read.next, inner, read.edge) {
+                Some(op) => match self.link(tokens, read, op, inner, room)? {
+                    Step::Behind(longer) => read = longer,
+                    Step::Inside(outer, next) => {
+                        inner = outer.right();
+                        pending.push(outer)?;
+                        read = self.first(tokens, next, room)?;
+                    }
+                },
+                None => match pending.pop() {
+                    Some(outer) => {
+                        inner = outer.level;
+                        read = outer.completed(self.alloc, read)?;
+                    }
+                    None => return Ok(read),
+                },
+            }
         }
-        Ok(read)
     }
 }
 
@@ -73,7 +92,10 @@ pub(crate) fn expr(
     if room == 0 {
         return Err(sunk(tokens, at));
     }
-    // A level of nesting counts for more than all powers, which are at most 50.
-    let bound = 200 * room as u32 + (100 - level as u32);
-    Reader { alloc, bound, expr }.climb(tokens, at, level, room)
+    Reader {
+        alloc,
+        bound: room,
+        expr,
+    }
+    .climb(tokens, at, level, room)
 }

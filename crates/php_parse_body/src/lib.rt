@@ -10,6 +10,7 @@ mod look;
 mod operands;
 mod operators;
 mod parse;
+mod pending;
 mod prefixes;
 mod reader;
 mod sign;

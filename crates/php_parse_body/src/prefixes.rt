@@ -1,8 +1,10 @@
 // What may stand wherever an operand may: an operand alone, counted or assigned, a prefix operator, `yield`.
 
-ghost use Rattle.std.specs.Prelude.{◌≡◌, ◌≤◌, ◌<◌, ◌+◌, ◌-◌, ◌^◌, ℕ, length, true, false};
+ghost use Rattle.std.specs.Prelude.{◌≡◌, ◌≤◌, ◌<◌, ◌+◌, ◌-◌, ◌^◌, ℕ, suc, length, true, false};
 ghost use Rattle.php_lex.specs.Token.{token_at};
 ghost use Rattle.php_ast.specs.Tree.{colons};
+ghost use Rattle.php_ast.specs.Power.{assign_row, yield_power};
+ghost use Rattle.php_ast.specs.Proper.{edge, right};
 ghost use Rattle.php_ast.specs.Sign as sign;
 ghost use Rattle.php_ast.specs.Sign.{beginning, closes, continuation, draws, ends_yield, is_ampersand};
 ghost use Rattle.php_ast.specs.declared.operator.Assign.TheVariants.{Plain};
@@ -15,9 +17,10 @@ ghost use Rattle.php_parse_body.specs.SignView.{opening_view};
 use crate::build::{assigned, counted, prefixed, referred, yielded, yielded_nothing, yielded_pair};
 use crate::fail::Stop;
 use crate::look::{ends_with, next_at, sees_ampersand, spot, start_at};
+use crate::pending::{edge_of, right_of};
 use crate::reader::{Operand, Read, Reader};
 use crate::sign::{Closer, Next, Opening, Start, Tail};
-use php_ast::{Assign, Count, Prefix, prefix_power_of};
+use php_ast::{Assign, Count, Prefix, power_of_yield, prefix_power_of, row_of_assignment};
 use php_lex::Tokens;
 use std::alloc::Global;
 
@@ -38,6 +41,27 @@ fn yields_nothing(tokens: &Tokens, at: usize) -> bool
         Next::Closes(Closer::Paren | Closer::Bracket | Closer::Comma | Closer::Semicolon) => true,
         _ => false,
     }
+}
+
+/// The least power of an operator in what is assigned.
+fn value_power() -> u8
+    ensures { result ≡ right assign_row }
+{
+    right_of(row_of_assignment())
+}
+
+/// What must be more than the power of an operator behind an assignment.
+fn assigned_edge() -> u8
+    ensures { result ≡ edge assign_row }
+{
+    edge_of(row_of_assignment())
+}
+
+/// The least power of an operator in what is yielded.
+fn yielded_power() -> u8
+    ensures { result ≡ suc yield_power }
+{
+    power_of_yield() + 1
 }
 
 /// What changes an operand.
@@ -87,9 +111,9 @@ impl<F: Fn(Global, &Tokens, usize, u8, usize) -> Result<Read, Stop>> Reader<F> {
         requires no_reference { op ≡ Plain → test is_ampersand (rest tokens.now (left.next + 1)) ≡ false }
         ensures { AnswersAssigned left room tokens.now result }
     {
-        let value = self.deeper(tokens, left.next + 1, 8, room)?;
+        let value = self.deeper(tokens, left.next + 1, value_power(), room)?;
         Ok(Read {
-            edge: 8_u8.min(value.edge),
+            edge: assigned_edge().min(value.edge),
             next: value.next,
             expr: assigned(self.alloc, op, left.expr, value.expr)?,
         })
@@ -103,9 +127,9 @@ impl<F: Fn(Global, &Tokens, usize, u8, usize) -> Result<Read, Stop>> Reader<F> {
         ensures { AnswersAssigned left room tokens.now result }
     {
         let ampersand = left.next + 1;
-        let source = self.deeper(tokens, ampersand + 1, 8, room)?;
+        let source = self.deeper(tokens, ampersand + 1, value_power(), room)?;
         Ok(Read {
-            edge: 8_u8.min(source.edge),
+            edge: assigned_edge().min(source.edge),
             next: source.next,
             expr: referred(self.alloc, left.expr, source.expr)?,
         })
@@ -164,9 +188,9 @@ impl<F: Fn(Global, &Tokens, usize, u8, usize) -> Result<Read, Stop>> Reader<F> {
         requires deep { 2 ≤ room }
         ensures { AnswersYield key room tokens.now at result }
     {
-        let value = self.deeper(tokens, key.next + 1, 8, room)?;
+        let value = self.deeper(tokens, key.next + 1, yielded_power(), room)?;
         Ok(Read {
-            edge: 7_u8.min(value.edge),
+            edge: power_of_yield().min(value.edge),
             next: value.next,
             expr: yielded_pair(self.alloc, spot(tokens, at), key.expr, value.expr)?,
         })
@@ -185,12 +209,12 @@ impl<F: Fn(Global, &Tokens, usize, u8, usize) -> Result<Read, Stop>> Reader<F> {
                 next: at + 1,
             });
         }
-        let value = self.deeper(tokens, at + 1, 8, room)?;
+        let value = self.deeper(tokens, at + 1, yielded_power(), room)?;
         if ends_with(tokens, value.next, Closer::DoubleArrow) {
             return self.yield_pair(tokens, at, value, room);
         }
         Ok(Read {
-            edge: 7_u8.min(value.edge),
+            edge: power_of_yield().min(value.edge),
             next: value.next,
             expr: yielded(self.alloc, spot(tokens, at), value.expr)?,
         })

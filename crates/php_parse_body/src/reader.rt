@@ -77,36 +77,17 @@ pub(crate) fn unclosed(read: Read) -> Stop
 }
 
 /// Reads parts of expressions. The expressions inside them are read by `expr`, which takes the tokens, a place,
-/// the least power of an operator that belongs to the expression, and how many levels of nesting are left.
-/// `bound` is above the rank of each expression that is read so: what ends the recursion.
+/// the least power of an operator that belongs to the expression, and how many levels of nesting are left. It is
+/// called with less than `bound` of them alone: what ends the recursion.
 #[derive(Drop)]
 pub(crate) struct Reader<F> {
     pub(crate) alloc: Global,
-    pub(crate) bound: u32,
+    pub(crate) bound: usize,
     pub(crate) expr: F,
 }
 
 impl<F: Fn(Global, &Tokens, usize, u8, usize) -> Result<Read, Stop>> Reader<F> {
-    ghost use Rattle.php_parse_body.specs.Answer.{AnswersHere, Nests, Ready, rank};
-
-    /// The expression that begins at a place.
-    pub(crate) fn beside(
-        &self,
-        tokens: &Tokens,
-        at: usize,
-        level: u8,
-        room: usize,
-    ) -> Result<Read, Stop>
-        requires nests { Nests self.now.bound (F.pre self.now.expr) (F.post self.now.expr) }
-        requires within { at ≤ length tokens.now }
-        requires some { 1 ≤ level }
-        requires small { level ≤ 50 }
-        requires shallow { room ≤ 129 }
-        requires below { rank room level < self.now.bound }
-        ensures { AnswersHere room level level tokens.now at result }
-    {
-        (self.expr)(self.alloc, tokens, at, level, room)
-    }
+    ghost use Rattle.php_parse_body.specs.Answer.{AnswersHere, Ready};
 
     /// The expression that begins at a place, one level deeper.
     pub(crate) fn deeper(
@@ -122,6 +103,6 @@ impl<F: Fn(Global, &Tokens, usize, u8, usize) -> Result<Read, Stop>> Reader<F> {
         requires small { level ≤ 50 }
         ensures { AnswersHere (room - 1) level level tokens.now at result }
     {
-        self.beside(tokens, at, level, room - 1)
+        (self.expr)(self.alloc, tokens, at, level, room - 1)
     }
 }

@@ -8,7 +8,9 @@ ghost use Rattle.php_ast.specs.Tree as tree;
 ghost use Rattle.php_parse_body.specs.SignView.{start_view, leaf_view, next_view, infix_view, tail_view, IsMark, class_kind_view, mold_view};
 ghost use Rattle.php_parse_body.specs.Seen.{named_class, mold};
 
-use php_ast::{ArrayForm, Assign, Binary, Count, Magic, Prefix, row_of};
+use php_ast::{
+    ArrayForm, Assign, Binary, Count, Magic, Prefix, row_of, row_of_choice, row_of_instanceof,
+};
 use php_lex::{Cast, Keyword, Punct, TokenKind};
 
 /// An operand of one token.
@@ -289,8 +291,8 @@ pub(crate) fn infix_strength(op: Infix) -> u8
 {
     match op {
         Infix::Joins(binary) => row_of(binary).power,
-        Infix::Checks => 36,
-        Infix::Chooses => 10,
+        Infix::Checks => row_of_instanceof().power,
+        Infix::Chooses => row_of_choice().power,
     }
 }
 

@@ -1,5 +1,4 @@
-use Rattle.php_parse_body.specs.Answer.{rank}
 use Rattle.php_parse_body.proofs.expression.+expr.Given as goal
 
 abbrev pub decreases-expr : goal.decreases-expr
-decreases-expr l = rank l.room l.level
+decreases-expr l = l.room

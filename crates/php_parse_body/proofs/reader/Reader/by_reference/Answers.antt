@@ -11,7 +11,7 @@ returns-in_err-source g c = λ f start spans low.
     let o = c.requires.here in
     let u = c.requires.reference in
     let q = err_from_is_err_and c.from_residual.result c.from_residual.ensures.1 in
-    rw (q.1, q.2) (within c.args.tokens.now c.args.left.next (c.args.left.next + 1 + 1) (c.args.room - 1) 8 (assign_open by_reference f) c.in_err-source.field-0.0 (omega arith) (inr (omega arith)) (omega arith) (λ d. omega arith)
+    rw (q.1, q.2) (within c.args.tokens.now c.args.left.next (c.args.left.next + 1 + 1) (c.args.room - 1) c.value_power.result (assign_open by_reference f) c.in_err-source.field-0.0 (omega arith) (inr (omega arith)) (omega arith) (λ d. omega arith)
     (reference_opens o.token u.token f o.stands.is o.role_is low u.stands.is u.role_is c.requires.ready.deep) c.in_err-source.ensures)
 
 pub returns : goal.returns
@@ -22,10 +22,10 @@ returns g c = λ f start spans low.
     record {
       form = assign by_reference f r.form;
       spans = assign_spans c.args.tokens.now _ _ _ by_reference f r.form start c.args.left.next _ _ c.in_ok-referred.ensures.shown spans r.spans (omega arith);
-      reads = operator_reads (assign_open by_reference f) r.form (c.args.room - 1) 8 (omega arith) (omega arith) (omega arith) refl (λ h. refl) (λ d. omega arith)
+      reads = operator_reads (assign_open by_reference f) r.form (c.args.room - 1) c.value_power.result (omega arith) (omega arith) (omega arith) c.value_power.ensures (λ h. refl) (λ d. omega arith)
           (reference_opens o.token u.token f o.stands.is o.role_is low u.stands.is u.role_is c.requires.ready.deep) r.reads r.rests;
       edge_is = omega (arith, r.edge_is);
-      rests = operator_rests (assign_open by_reference f) r.form 8 _ (omega arith) (omega arith) refl r.rests;
+      rests = operator_rests (assign_open by_reference f) r.form c.value_power.result _ (omega arith) (omega arith) c.value_power.ensures r.rests;
       bare = r.bare;
       ahead = omega (arith, r.ahead);
       within = r.within;

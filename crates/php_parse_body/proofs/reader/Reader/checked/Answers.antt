@@ -27,7 +27,7 @@ returns g c = λ level near f start spans is.
       spans = static_instance_spans c.args.tokens.now _ _ _ f start c.args.left.next c.in_ok-checked_static.ensures.shown c.spot.ensures spans;
       reads = static_instance_reads f b.token near (instance_opens o.token f o.stands.is o.role_is near (omega arith) c.requires.ready.deep) b.stands.is
           (b.role_is ∙ ap (λ k. opening_view k (token_at c.args.tokens.now (c.args.left.next + 1)).text) a.0) a.1 c.requires.ready.deep;
-      edge_is = refl;
+      edge_is = sym c.checked_edge.ensures;
       rests = instance_rests (static_instance f tt) _ refl;
       bare = λ h. cc;
       ahead = omega arith;

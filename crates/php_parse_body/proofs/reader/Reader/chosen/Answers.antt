@@ -1,9 +1,9 @@
-use Rattle.std.proofs.Common.{◌≡◌, ◌+◌, ◌-◌, ◌∙◌, ◌∷◌, refl, arith, inl, inr, ap, sym}
-use Rattle.php_ast.specs.Machine.{then_open, expects, holds}
+use Rattle.std.proofs.Common.{◌≡◌, ◌+◌, ◌-◌, ◌∙◌, ◌∷◌, refl, arith, inl}
+use Rattle.php_ast.specs.Machine.{short_open, then_open, expects, holds}
 use Rattle.php_parse_body.proofs.Fails.{between}
-use Rattle.php_parse_body.proofs.Founds.{behind}
 use Rattle.php_parse_body.proofs.Moves.{leads, inside}
-use Rattle.php_parse_body.proofs.Joins.{then_opens, then_unclosed}
+use Rattle.php_parse_body.proofs.Pendings.{steps_behind}
+use Rattle.php_parse_body.proofs.Joins.{short_opens, short_spans, then_opens, then_unclosed}
 use Rattle.php_parse_body.proofs.reader.Reader.chosen.Goals as goal
 
 pub returns-in-Err : goal.returns-in-Err
@@ -22,11 +22,31 @@ returns-then-not-ends_with g c = λ f start spans is.
       within = r.within;
     })
 
+pub returns-then-sees_colon : goal.returns-then-sees_colon
+returns-then-sees_colon g c = λ f start spans is.
+    let o = c.requires.here in
+    let u = c.if-sees_colon.ensures in (
+      record {
+        form = short_open f;
+        reads = short_opens o.token u.token f o.stands.is o.role_is c.requires.near (omega arith) u.stands.is u.role_is c.requires.ready.deep;
+        level_is = refl;
+        least_is = refl;
+        as_deep = λ d. refl;
+        arrow = refl;
+        shown = λ x y behind right. short_spans c.args.tokens.now _ _ _ f y start c.args.left.next behind refl spans right;
+        ends_is = λ x. refl;
+        bare_is = λ x. refl;
+        ahead = omega (arith, spans.sized);
+        within = omega (arith, u.stands.within);
+      },
+      omega arith,
+    )
+
 pub returns : goal.returns
 returns g c = λ f start spans is.
     let o = c.requires.here in
     let r = c.in-Ok.ensures in
-    behind 50 c.args.tokens.now start c.args.left.next _ (λ s. holds r.form (then_open f ∷ s)) _ (omega (arith, r.ahead))
+    steps_behind c.args.tokens.now start c.args.left.next _ (λ s. holds r.form (then_open f ∷ s)) _ (omega (arith, r.ahead))
     (leads (λ s. expects (then_open f ∷ s)) (then_opens o.token f o.stands.is o.role_is c.requires.near (omega arith) c.if-sees_colon.ensures c.requires.ready.deep)
     (inside (c.args.room - 1) 1 (then_open f) (inl refl) (omega arith) (λ d. omega arith) r.reads))
-    (c.chosen_right.ensures f r.form start spans r.spans)
+    (c.half_chosen.ensures c.args.room (omega arith) f r.form start spans r.spans)

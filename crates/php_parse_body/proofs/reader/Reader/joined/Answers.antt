@@ -1,38 +1,29 @@
-use Rattle.std.proofs.Common.{◌≡◌, ◌+◌, ◌-◌, ◌∙◌, refl, arith, inl, inr, ap, sym}
+use Rattle.std.proofs.Common.{◌≡◌, ◌+◌, ◌∙◌, refl, arith}
 use Rattle.std.proofs.lemmas.Result.{err_from_is_err_and}
-use Rattle.php_parse_body.proofs.Fails.{later, within, between, fewer}
-use Rattle.php_ast.specs.Power.{binary_row}
-use Rattle.php_ast.specs.Proper.{right}
-use Rattle.php_ast.specs.Nesting.{right_depth}
-use Rattle.php_ast.specs.Tree.{binary}
-use Rattle.php_ast.proofs.Fill.{binary_bound}
 use Rattle.php_ast.specs.Machine.{binary_open}
-use Rattle.php_parse_body.proofs.Joins.{operator_reads, operator_rests, binary_opens, binary_spans, right_bounds}
+use Rattle.php_parse_body.proofs.Joins.{binary_opens, binary_spans}
 use Rattle.php_parse_body.proofs.reader.Reader.joined.Goals as goal
 
-pub returns-in_err-right : goal.returns-in_err-right
-returns-in_err-right g c = λ f start spans is.
-    let o = c.requires.here in
-    let op = c.args.op in
-    let b = right_bounds c.args.op in
+pub returns-in_err-to_right : goal.returns-in_err-to_right
+returns-in_err-to_right g c = λ f start spans is.
     let q = err_from_is_err_and c.from_residual.result c.from_residual.ensures.1 in
-    rw (q.1, q.2) (within c.args.tokens.now c.args.left.next (c.args.left.next + 1) (c.args.room - right_depth (binary_row c.args.op).grouping) (right (binary_row c.args.op)) (binary_open c.args.op f) c.in_err-right.field-0.0 (omega arith) (inr (omega (arith, b.1, binary_bound c.args.op))) (omega arith) (λ d. omega (arith, b.2))
-    (binary_opens o.token c.args.op f o.stands.is o.role_is c.requires.near (omega arith) c.requires.ready.deep) c.in_err-right.ensures)
+    rw (q.1, q.2) (c.in_err-to_right.ensures c.args.level c.requires.near f start spans is)
 
 pub returns : goal.returns
 returns g c = λ f start spans is.
-    let o = c.requires.here in
-    let b = right_bounds c.args.op in
-    let r = c.in_ok-right.ensures in
-    record {
-      form = binary c.args.op f r.form;
-      spans = binary_spans c.args.tokens.now _ _ _ c.args.op f r.form start c.args.left.next _ c.in_ok-joined.ensures.shown spans r.spans;
-      reads = operator_reads (binary_open c.args.op f) r.form (c.args.room - right_depth (binary_row c.args.op).grouping) (right (binary_row c.args.op)) (omega (arith, b.1, binary_bound c.args.op)) (omega (arith, b.0)) (omega (arith, b.1, binary_bound c.args.op)) refl (λ h. refl) (λ d. omega (arith, b.2))
-          (binary_opens o.token c.args.op f o.stands.is o.role_is c.requires.near (omega arith) c.requires.ready.deep) r.reads r.rests;
-      edge_is = omega (arith, r.edge_is);
-      rests = operator_rests (binary_open c.args.op f) r.form (right (binary_row c.args.op)) _ (omega (arith, b.0)) (omega (arith, b.1, binary_bound c.args.op)) refl r.rests;
-      bare = r.bare;
-      ahead = omega (arith, r.ahead);
-      within = r.within;
-      deep = c.requires.ready.deep;
-    }
+    let o = c.requires.here in (
+      record {
+        form = binary_open c.args.op f;
+        reads = binary_opens o.token c.args.op f o.stands.is o.role_is c.requires.near (omega arith) c.requires.ready.deep;
+        level_is = refl;
+        least_is = refl;
+        as_deep = λ d. omega (arith, c.depth_of.ensures.is, c.depth_of.ensures.most, c.if-depth_of-eq1.false);
+        arrow = refl;
+        shown = λ x y behind right. binary_spans c.args.tokens.now _ _ _ c.args.op f y start c.args.left.next behind refl spans right;
+        ends_is = λ x. refl;
+        bare_is = λ x. refl;
+        ahead = omega (arith, spans.sized);
+        within = omega (arith, o.stands.within);
+      },
+      omega arith,
+    )

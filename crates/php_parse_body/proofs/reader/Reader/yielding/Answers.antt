@@ -31,7 +31,7 @@ pub returns-in_err-value : goal.returns-in_err-value
 returns-in_err-value g c =
     let o = c.requires.here in
     let q = err_from_is_err_and c.from_residual.result c.from_residual.ensures.1 in
-    rw (q.1, q.2) (within c.args.tokens.now c.args.at (c.args.at + 1) (c.args.room - 1) 8 yield_open c.in_err-value.field-0.0 (omega arith) (inr (omega arith)) (omega arith) (λ d. omega arith)
+    rw (q.1, q.2) (within c.args.tokens.now c.args.at (c.args.at + 1) (c.args.room - 1) c.yielded_power.result yield_open c.in_err-value.field-0.0 (omega arith) (inr (omega arith)) (omega arith) (λ d. omega arith)
     (yield_opens o.token o.stands.is o.role_is (sym c.yields_nothing.ensures ∙ c.if-yields_nothing.false) c.requires.ready.deep) c.in_err-value.ensures)
 
 pub returns-then-ends_with : goal.returns-then-ends_with
@@ -40,7 +40,7 @@ returns-then-ends_with g c =
     let r = c.in_ok-value.ensures in
     behind 50 c.args.tokens.now c.args.at c.args.at _ (λ s. holds r.form (yield_open ∷ s)) _ (omega (arith, r.ahead))
     (leads (λ s. expects (yield_open ∷ s)) (yield_opens o.token o.stands.is o.role_is (sym c.yields_nothing.ensures ∙ c.if-yields_nothing.false) c.requires.ready.deep)
-    (inside (c.args.room - 1) 8 yield_open (inr (omega arith)) (omega arith) (λ d. omega arith) r.reads))
+    (inside (c.args.room - 1) c.yielded_power.result yield_open (inr (omega arith)) (omega arith) (λ d. omega arith) r.reads))
     (c.yield_pair.ensures r.form r.spans)
 
 pub returns : goal.returns
@@ -51,10 +51,10 @@ returns g c =
     record {
       form = yield_value tt r.form;
       spans = yield_spans c.args.tokens.now _ _ _ r.form c.args.at _ c.in_ok-yielded.ensures.shown c.spot-2.ensures r.spans;
-      reads = operator_reads yield_open r.form (c.args.room - 1) 8 (omega arith) (omega arith) (omega arith) refl (λ h. absurd (shut (arrow_is _ h))) (λ d. omega arith)
+      reads = operator_reads yield_open r.form (c.args.room - 1) c.yielded_power.result (omega arith) (omega arith) (omega arith) c.yielded_power.ensures (λ h. absurd (shut (arrow_is _ h))) (λ d. omega arith)
           (yield_opens o.token o.stands.is o.role_is (sym c.yields_nothing.ensures ∙ c.if-yields_nothing.false) c.requires.ready.deep) r.reads r.rests;
       edge_is = omega (arith, r.edge_is);
-      rests = operator_rests yield_open r.form 8 _ (omega arith) (omega arith) refl r.rests;
+      rests = operator_rests yield_open r.form c.yielded_power.result _ (omega arith) (omega arith) c.yielded_power.ensures r.rests;
       bare = r.bare;
       ahead = omega (arith, r.ahead);
       within = r.within;

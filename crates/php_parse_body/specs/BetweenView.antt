@@ -1,0 +1,26 @@
+-- What an operator between two sides comes to.
+use Rattle.std.specs.Prelude.{Bool, true, ◌&&◌}
+use Rattle.php_ast.specs.declared.expression.Expr.{Expr}
+use Rattle.php_ast.specs.Tree.{Tree, binary, choice, short_choice}
+use Rattle.php_ast.specs.Power.{Row, binary_row, choice_row}
+use Rattle.php_ast.specs.View.{Note, view}
+use Rattle.php_parse_body.specs.declared.pending.Between.{Between}
+use Rattle.php_parse_body.specs.declared.pending.Between.TheVariants as between
+use Rattle.php_parse_body.specs.Flat.{is_flat}
+
+abbrev pub row_between : Between → Row
+row_between (between.Joins op) = binary_row op
+row_between between.ShortChoice = choice_row
+row_between (between.Choice middle) = choice_row
+
+abbrev pub closed_view : Between → Tree Note → Tree Note → Tree Note
+closed_view (between.Joins op) l r = binary op l r
+closed_view between.ShortChoice l r = short_choice l r
+closed_view (between.Choice middle) l r = choice l (view middle) r
+
+abbrev pub is_flat_between : Between → Bool
+is_flat_between (between.Choice middle) = is_flat middle
+is_flat_between _ = true
+
+abbrev pub are_flat_sides : Expr → Between → Bool
+are_flat_sides left b = is_flat left && is_flat_between b

@@ -1,0 +1,118 @@
+// Operators whose right side is still to be read.
+
+ghost use Rattle.std.specs.Prelude.{◌≡◌, ◌≤◌, true, IfOk};
+ghost use Rattle.php_ast.specs.PowerView.{row_view};
+ghost use Rattle.php_ast.specs.Proper.{edge, right};
+ghost use Rattle.php_ast.specs.View.{view};
+ghost use Rattle.php_parse_body.specs.Flat.{is_flat};
+ghost use Rattle.php_parse_body.specs.BetweenView.{are_flat_sides, closed_view, row_between};
+
+use crate::build::{joined, linked};
+use crate::reader::Read;
+use php_ast::{Binary, Expr, Grouping, Link, Row, row_of, row_of_choice};
+use sqlite_items::Boxed;
+use std::alloc::{AllocError, Global};
+
+/// What stands between the two sides of an operator.
+#[derive(Drop)]
+pub(crate) enum Between {
+    Joins(Binary),
+    /// `?:`
+    ShortChoice,
+    /// `?`, an expression and `:`
+    Choice(Boxed<Expr>),
+}
+
+/// An operator with its left side. It stands among operators of a power of at least `level`, and its right side is no
+/// deeper than its left one.
+#[derive(Drop)]
+pub(crate) struct Pending {
+    pub(crate) left: Expr,
+    pub(crate) between: Between,
+    pub(crate) level: u8,
+    ghost flat: { are_flat_sides left between ≡ true },
+}
+
+/// Where an operator behind an expression leads.
+#[derive(Drop)]
+pub(crate) enum Step {
+    /// Behind a longer expression.
+    Behind(Read),
+    /// Into its right side, which begins at a place.
+    Inside(Pending, usize),
+}
+
+/// The least power of an operator in the right side of one with this row.
+pub(crate) fn right_of(row: Row) -> u8
+    requires { row.power ≤ 49 }
+    ensures { result ≡ right (row_view row) }
+{
+    match row.grouping {
+        Grouping::ToRight => row.power,
+        Grouping::ToLeft | Grouping::Ungrouped => row.power + 1,
+    }
+}
+
+/// What must be more than the power of an operator that follows one with this row.
+pub(crate) fn edge_of(row: Row) -> u8
+    requires { row.power ≤ 49 }
+    ensures { result ≡ edge (row_view row) }
+{
+    match row.grouping {
+        Grouping::ToLeft => row.power + 1,
+        Grouping::ToRight | Grouping::Ungrouped => row.power,
+    }
+}
+
+/// The row of an operator.
+fn row_at(between: &Between) -> Row
+    ensures row { row_view result ≡ row_between between.now }
+    ensures small { result.power ≤ 49 }
+{
+    match between {
+        Between::Joins(op) => row_of(*op),
+        Between::ShortChoice | Between::Choice(_) => row_of_choice(),
+    }
+}
+
+/// An operator between its two sides.
+fn closed(alloc: Global, left: Expr, between: Between, right: Expr) -> Result<Expr, AllocError>
+    requires sides { are_flat_sides left between ≡ true }
+    requires right { is_flat right ≡ true }
+    ensures shown { IfOk result (λ e. view e ≡ closed_view between (view left) (view right)) }
+    ensures flat { IfOk result (λ e. is_flat e ≡ true) }
+{
+    match between {
+        Between::Joins(op) => joined(alloc, op, left, right),
+        Between::ShortChoice => linked(alloc, left, Link::ShortChoice(right)),
+        Between::Choice(middle) => linked(alloc, left, Link::Choice(middle.into_inner(), right)),
+    }
+}
+
+impl Pending {
+    ghost use Rattle.php_parse_body.specs.Climb.{Completes};
+
+    /// The least power of an operator in the right side.
+    pub(crate) fn right(&self) -> u8
+        ensures { result ≡ right (row_between self.now.between) }
+    {
+        right_of(row_at(&self.between))
+    }
+
+    /// The operator with its right side.
+    pub(crate) fn completed(self, alloc: Global, right: Read) -> Result<Read, AllocError>
+        ensures { IfOk result (λ r. Completes self right r) }
+    {
+        let Pending {
+            left,
+            between,
+            level: _,
+        } = self;
+        let edge = edge_of(row_at(&between));
+        Ok(Read {
+            edge: edge.min(right.edge),
+            next: right.next,
+            expr: closed(alloc, left, between, right.expr)?,
+        })
+    }
+}
