@@ -9,6 +9,9 @@ use sqlite_items::{Boxed, Items};
 
 /// An expression. The spot of a form is that of its first token; a form without one begins with the
 /// first token of its first part.
+///
+/// Every node and every element of a list is as large as the largest variant, so a part that is large
+/// and seldom there stands in a box.
 #[derive(Drop)]
 pub enum Expr {
     /// `$name`
@@ -20,7 +23,7 @@ pub enum Expr {
     /// A bare name: of a constant, or of a function or a class that suffixes follow.
     Name(Name),
     /// `static :: name`
-    StaticMember(Spot, Member),
+    StaticMember(Spot, Boxed<Member>),
     /// A text with parts.
     Template(Spot, Items<Piece<Expr>>),
     /// An expression in parentheses.
@@ -43,9 +46,9 @@ pub enum Expr {
     /// An operand with its suffixes, one or more. The operand is none of `new`.
     Chain(Boxed<Self>, Items<Suffix<Self>>),
     /// `new` without arguments
-    New(Spot, Class<Expr>),
+    New(Spot, Boxed<Class<Expr>>),
     /// `new` with arguments in parentheses
-    NewWith(Spot, Class<Expr>, Items<Argument<Expr>>),
+    NewWith(Spot, Boxed<Class<Expr>>, Items<Argument<Expr>>),
     /// A prefix operator and its operand.
     Prefix(Spot, Prefix, Boxed<Expr>),
     /// `operand++` or `operand--`

@@ -77,7 +77,7 @@ impl Printer {
             Expr::Int(_, value) => self.int(value),
             Expr::Str(_, text) => self.string(text),
             Expr::Name(name) => self.name(&name.text),
-            Expr::StaticMember(_, member) => self.static_member(member),
+            Expr::StaticMember(_, member) => self.static_member(member.get()),
             Expr::Template(_, pieces) => self.template(pieces.as_slice()),
             Expr::Group(_, inside) => self.around(&[LEFT], inside.get(), &[RIGHT]),
             Expr::Array(_, form, items) => self.array(*form, items.as_slice()),
@@ -94,8 +94,10 @@ impl Printer {
             Expr::ExitWith(_, inside) => self.around(&[EXIT, LEFT], inside.get(), &[RIGHT]),
             Expr::Magic(_, magic) => self.sign(magic_sign(*magic)),
             Expr::Chain(first, suffixes) => self.chain(first.get(), suffixes.as_slice()),
-            Expr::New(_, class) => self.made(class),
-            Expr::NewWith(_, class, arguments) => self.made_with(class, arguments.as_slice()),
+            Expr::New(_, class) => self.made(class.get()),
+            Expr::NewWith(_, class, arguments) => {
+                self.made_with(class.get(), arguments.as_slice())
+            }
             Expr::Prefix(_, op, operand) => self.around(&[prefix_sign(*op)], operand.get(), &[]),
             Expr::Counted(operand, count) => {
                 self.around(&[], operand.get(), &[count_sign(*count)])

@@ -53,11 +53,11 @@ pub(crate) fn empty_exit(spot: Spot) -> Expr
     Expr::ExitEmpty(spot)
 }
 
-pub(crate) fn of_static(spot: Spot, member: Member) -> Expr
-    ensures shown { view result ≡ tree.static_member (note spot) (shown.member_view member) }
-    ensures flat { is_flat_leaf result ≡ true }
+pub(crate) fn of_static(alloc: Global, spot: Spot, member: Member) -> Result<Expr, AllocError>
+    ensures shown { IfOk result (λ e. view e ≡ tree.static_member (note spot) (shown.member_view member)) }
+    ensures flat { IfOk result (λ e. is_flat_leaf e ≡ true) }
 {
-    Expr::StaticMember(spot, member)
+    Ok(Expr::StaticMember(spot, Boxed::new(alloc, member)?))
 }
 
 pub(crate) fn yielded_nothing(spot: Spot) -> Expr
@@ -119,21 +119,26 @@ pub(crate) fn chained(
     Ok(Expr::Chain(Boxed::new(alloc, first)?, suffixes))
 }
 
-pub(crate) fn made(spot: Spot, class: Class<Expr>) -> Expr
+pub(crate) fn made(alloc: Global, spot: Spot, class: Class<Expr>) -> Result<Expr, AllocError>
     requires { is_flat_class class ≡ true }
-    ensures shown { view result ≡ tree.new (note spot) (shown.class_view (part.class_parts class)) }
-    ensures flat { is_flat_leaf result ≡ true }
+    ensures shown { IfOk result (λ e. view e ≡ tree.new (note spot) (shown.class_view (part.class_parts class))) }
+    ensures flat { IfOk result (λ e. is_flat_leaf e ≡ true) }
 {
-    Expr::New(spot, class)
+    Ok(Expr::New(spot, Boxed::new(alloc, class)?))
 }
 
-pub(crate) fn made_with(spot: Spot, class: Class<Expr>, arguments: Items<Argument<Expr>>) -> Expr
+pub(crate) fn made_with(
+    alloc: Global,
+    spot: Spot,
+    class: Class<Expr>,
+    arguments: Items<Argument<Expr>>,
+) -> Result<Expr, AllocError>
     requires class { is_flat_class class ≡ true }
     requires arguments { are_flat_arguments arguments ≡ true }
-    ensures shown { view result ≡ tree.new_with (note spot) (shown.class_view (part.class_parts class)) (shown.arguments_from tree.none (map part.argument_parts arguments)) }
-    ensures flat { is_flat_leaf result ≡ true }
+    ensures shown { IfOk result (λ e. view e ≡ tree.new_with (note spot) (shown.class_view (part.class_parts class)) (shown.arguments_from tree.none (map part.argument_parts arguments))) }
+    ensures flat { IfOk result (λ e. is_flat_leaf e ≡ true) }
 {
-    Expr::NewWith(spot, class, arguments)
+    Ok(Expr::NewWith(spot, Boxed::new(alloc, class)?, arguments))
 }
 
 pub(crate) fn prefixed(

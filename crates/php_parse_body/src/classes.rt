@@ -159,14 +159,14 @@ impl<F: Fn(Global, &Tokens, usize, u8, usize) -> Result<Read, Stop>> Reader<F> {
         if !sees_arguments(tokens, class.next) {
             return Ok(Taken {
                 next: class.next,
-                expr: made(spot(tokens, at), class.item),
+                expr: made(self.alloc, spot(tokens, at), class.item)?,
                 edge: 80,
             });
         }
         let arguments = self.arguments(tokens, class.next + 1, room)?;
         Ok(Taken {
             next: arguments.next,
-            expr: made_with(spot(tokens, at), class.item, arguments.items),
+            expr: made_with(self.alloc, spot(tokens, at), class.item, arguments.items)?,
             edge: 80,
         })
     }

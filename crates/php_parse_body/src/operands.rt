@@ -60,7 +60,7 @@ fn static_member(alloc: Global, tokens: &Tokens, at: usize) -> Result<Taken, Sto
         return Err(Stop::Syntax(colons + 1));
     };
     Ok(Taken {
-        expr: of_static(spot(tokens, at), member),
+        expr: of_static(alloc, spot(tokens, at), member)?,
         edge: 200,
         next: colons + 1 + 1,
     })

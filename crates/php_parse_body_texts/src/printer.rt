@@ -95,7 +95,7 @@ impl Printer {
             Expr::Int(_, value) => self.int(*value),
             Expr::Str(_, text) => self.text("'", text, "'"),
             Expr::Name(name) => self.text("", &name.text, ""),
-            Expr::StaticMember(_, member) => self.static_member(member),
+            Expr::StaticMember(_, member) => self.static_member(member.get()),
             Expr::Template(_, pieces) => self.template(pieces.as_slice(), depth),
             Expr::Group(_, inside) => self.around("(", inside.get(), ")", depth),
             Expr::Array(_, form, items) => {
@@ -108,9 +108,9 @@ impl Printer {
             Expr::ExitWith(_, inside) => self.around("exit(", inside.get(), ")", depth),
             Expr::Magic(_, constant) => self.put(magic_word(*constant)),
             Expr::Chain(head, suffixes) => self.chain(head.get(), suffixes.as_slice(), depth),
-            Expr::New(_, class) => self.class(class, depth),
+            Expr::New(_, class) => self.class(class.get(), depth),
             Expr::NewWith(_, class, arguments) => {
-                self.class_with(class, arguments.as_slice(), depth)
+                self.class_with(class.get(), arguments.as_slice(), depth)
             }
             Expr::Prefix(_, op, operand) => self.prefix(prefix_sign(*op), operand.get(), depth),
             Expr::Counted(operand, count) => self.counted(operand.get(), count_sign(*count), depth),

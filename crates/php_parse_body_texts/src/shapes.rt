@@ -30,7 +30,8 @@ fn creation_with_a_suffix(alloc: Global) -> Result<Expr, NoMemory> {
         spot: AT,
         text: Text::from_bytes(alloc, b"A")?,
     };
-    let creation = Expr::New(AT, Class::Variable(name, Items::new(alloc)));
+    let class = Boxed::new(alloc, Class::Variable(name, Items::new(alloc)))?;
+    let creation = Expr::New(AT, class);
     Ok(chain(alloc, creation)?)
 }
 

@@ -17,7 +17,7 @@ returns c = λ room deep.
     let m = rw c.in-Some.is at c.in_ok-member.ensures in
     record {
       form = static_member tt m.0;
-      spans = static_spans c.args.tokens.now _ _ _ m.0 c.args.at c.of_static.ensures.shown c.spot.ensures m.2;
+      spans = static_spans c.args.tokens.now _ _ _ m.0 c.args.at c.in_ok-of_static.ensures.shown c.spot.ensures m.2;
       reads = static_reads o.token d.token m.1.token m.0 o.stands.is o.role_is d.stands.is d.role_is m.1.stands.is m.1.role_is deep;
       edge_is = refl;
       opened = omega arith;

@@ -20,7 +20,7 @@ returns-then-not-sees_arguments g c =
     let r = c.in_ok-class.ensures in
     record {
       form = new tt r.class;
-      spans = new_spans c.args.tokens.now _ _ _ r.class c.args.at _ c.made.ensures.shown c.spot.ensures r.shown r.sized;
+      spans = new_spans c.args.tokens.now _ _ _ r.class c.args.at _ c.in_ok-made.ensures.shown c.spot.ensures r.shown r.sized;
       reads = leads (λ s. past_new s) (new_begins o.token o.stands.is o.role_is c.requires.ready.deep) (leads (λ s. past_class r.class s) r.reads (class_ends r.class c.if-not-sees_arguments.ensures r.no_index r.no_arrow));
       edge_is = refl;
       opened = omega arith;
@@ -47,7 +47,7 @@ returns g c =
     let s = c.in_ok-arguments.ensures in
     record {
       form = new_with tt r.class s.items;
-      spans = new_with_spans c.args.tokens.now _ _ _ _ r.class s.items c.args.at c.in_ok-class.class.next _ c.made_with.ensures.shown c.spot-2.ensures r.shown r.sized s.spans;
+      spans = new_with_spans c.args.tokens.now _ _ _ _ r.class s.items c.args.at c.in_ok-class.class.next _ c.in_ok-made_with.ensures.shown c.spot-2.ensures r.shown r.sized s.spans;
       reads = leads (λ s. past_new s) (new_begins o.token o.stands.is o.role_is c.requires.ready.deep) (leads (λ s. past_class r.class s) r.reads
           (leads (λ s. past_items (of_new r.class) none s) (class_applies a.token r.class a.stands.is a.role_is c.requires.ready.deep) (s.reads (of_new r.class) refl)));
       edge_is = refl;
