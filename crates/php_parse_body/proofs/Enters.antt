@@ -14,7 +14,7 @@ use Rattle.php_ast.specs.Laws.{head_continuation}
 use Rattle.php_ast.proofs.Signs.{closer_symbol, MarkSays, item_says}
 use Rattle.php_parse_body.specs.Walk.{outcome_of, outcome, stepped, walk, Leads, Halts, head_strength}
 use Rattle.php_parse_body.specs.Seen.{test, head_mark}
-use Rattle.php_parse_body.specs.Answer.{is_found}
+use Rattle.php_parse_body.specs.ListAnswer.{is_found}
 
 -- ---- two states that do the same
 

@@ -11,6 +11,7 @@ pub mod Trails
 pub mod Joins
 pub mod Founds
 pub mod Listings
+pub mod ListNotes
 pub mod Pendings
 pub mod Makes
 pub mod Heads

@@ -24,7 +24,8 @@ use Rattle.php_ast.specs.Laws.{head_continuation}
 use Rattle.php_parse_body.specs.Walk.{Leads, Halts, Rests, walk, short}
 use Rattle.php_parse_body.specs.Seen.{test, head_mark}
 use Rattle.php_parse_body.specs.Parts.{item_parts, argument_parts}
-use Rattle.php_parse_body.specs.Answer.{Spans, AnswersKeyed, AnswersItem, SpansItems, closer_in, no_items}
+use Rattle.php_parse_body.specs.Answer.{Spans}
+use Rattle.php_parse_body.specs.ListAnswer.{AnswersKeyed, AnswersItem, SpansItems, closer_in, no_items}
 use Rattle.std.proofs.Common.{Result, Ok, Err}
 use Rattle.php_parse_body.specs.declared.fail.Stop.{Stop}
 use Rattle.php_parse_body.specs.declared.reader.Entry.{Entry}
@@ -313,96 +314,3 @@ word_halts {room} {x} {y} t form is begun word no_paren deep =
 pub isset_halts : {room : ℕ} {x y : List Symbol} (t : Symbol) → x ≡ t ∷ y → beginning t ≡ lists isset → test is_paren y ≡ false → 1 ≤ room → Halts false room 200 (λ s. expects s) x y
 isset_halts {room} {x} {y} t is begun no_paren deep =
     leads_halts (λ s. due_listed isset s) (isset_begins t is begun deep) (record { same = λ n s whole near at. unopened n isset s y no_paren })
-
--- ---- notes of lists
-
-comma_more : (items : Items Nothing) (lead : Lead Nothing) (e : Form) → comma_size (and items lead e) ≡ 1
-comma_more items lead e = refl
-
--- one more item, where the item begins behind its comma
-pub noted_more : (tokens : List Token) (at place : ℕ) (items : Items Nothing) (lead : Lead Nothing) (e : Form) (xs : Items Note) → xs ≡ noted_items (notes_of tokens) at items → at + size_items items + comma_size items ≡ place
-    → and xs (noted_lead (notes_of tokens) place lead) (noted (notes_of tokens) (place + size_lead lead) e) ≡ noted_items (notes_of tokens) at (and items lead e)
-noted_more tokens at place items lead e xs is sized =
-    ap (λ z. and z (noted_lead (notes_of tokens) place lead) (noted (notes_of tokens) (place + size_lead lead) e)) is
-    ∙ ap (λ k. and (noted_items (notes_of tokens) at items) (noted_lead (notes_of tokens) k lead) (noted (notes_of tokens) (k + size_lead lead) e)) (sym sized)
-
-pub arguments_more : (tokens : List Token) (at place : ℕ) (items : Items Nothing) (lead : Lead Nothing) (e : Form) (xs new : List (Argument Expr)) (x : Argument Expr) → new ≡ xs ++ x ∷ []
-    → arguments_from none (map argument_parts xs) ≡ noted_items (notes_of tokens) at items → at + size_items items + comma_size items ≡ place
-    → ((ys : Items Note) → argument_more ys (argument_parts x) ≡ and ys (noted_lead (notes_of tokens) place lead) (noted (notes_of tokens) (place + size_lead lead) e))
-    → arguments_from none (map argument_parts new) ≡ noted_items (notes_of tokens) at (and items lead e)
-arguments_more tokens at place items lead e xs new x grown is sized shown =
-    argument_push none xs new x grown ∙ shown (arguments_from none (map argument_parts xs)) ∙ noted_more tokens at place items lead e (arguments_from none (map argument_parts xs)) is sized
-
-pub items_more : (tokens : List Token) (at place : ℕ) (items : Items Nothing) (lead : Lead Nothing) (e : Form) (xs new : List (Item Expr)) (x : Item Expr) → new ≡ xs ++ x ∷ []
-    → items_from none (map item_parts xs) ≡ noted_items (notes_of tokens) at items → at + size_items items + comma_size items ≡ place
-    → ((ys : Items Note) → item_more ys (item_parts x) ≡ and ys (noted_lead (notes_of tokens) place lead) (noted (notes_of tokens) (place + size_lead lead) e))
-    → items_from none (map item_parts new) ≡ noted_items (notes_of tokens) at (and items lead e)
-items_more tokens at place items lead e xs new x grown is sized shown =
-    item_push none xs new x grown ∙ shown (items_from none (map item_parts xs)) ∙ noted_more tokens at place items lead e (items_from none (map item_parts xs)) is sized
-
-pub items_skip : (tokens : List Token) (at : ℕ) (items : Items Nothing) (xs new : List (Item Expr)) → new ≡ xs ++ item.Missing ∷ []
-    → items_from none (map item_parts xs) ≡ noted_items (notes_of tokens) at items → items_from none (map item_parts new) ≡ noted_items (notes_of tokens) at (skip items)
-items_skip tokens at items xs new grown is = item_push none xs new item.Missing grown ∙ ap skip is
-
-pub values_more : (tokens : List Token) (at place : ℕ) (items : Items Nothing) (e : Form) (xs new : List Expr) (x : Expr) → new ≡ xs ++ x ∷ []
-    → values_from none (map view xs) ≡ noted_items (notes_of tokens) at items → at + size_items items + comma_size items ≡ place → view x ≡ noted (notes_of tokens) place e
-    → values_from none (map view new) ≡ noted_items (notes_of tokens) at (and items plain e)
-values_more tokens at place items e xs new x grown is sized shown =
-    value_push none xs new x grown
-    ∙ ap (and (values_from none (map view xs)) plain) (shown ∙ ap (λ k. noted (notes_of tokens) k e) (omega arith))
-    ∙ noted_more tokens at place items plain e (values_from none (map view xs)) is sized
-
-pub grown_some : {A : Type 0} (xs new : List A) (x : A) → new ≡ xs ++ x ∷ [] → no_items new ≡ false
-grown_some [] new x is = ap no_items is
-grown_some (y ∷ ys) new x is = ap no_items is
-
--- the items where a list ends
-pub ended_spans : (tokens : List Token) (at next : ℕ) (items : Items Nothing) (xs new : List (Item Expr)) → is_none items ≡ no_items xs
-    → items_from none (map item_parts xs) ≡ noted_items (notes_of tokens) at items → at + size_items items + comma_size items ≡ next
-    → (xs ≡ [] → new ≡ []) → ((xs ≡ [] → ⊥) → new ≡ xs ++ item.Missing ∷ [])
-    → SpansItems tokens (items_from none (map item_parts new)) (ended_items items) at (next + 1)
-ended_spans tokens at next none [] new is shown sized a b = record { shown = ap (λ l. items_from none (map item_parts l)) (a refl); sized = omega arith }
-ended_spans tokens at next (and items lead e) [] new is shown sized a b = cc
-ended_spans tokens at next (skip items) [] new is shown sized a b = cc
-ended_spans tokens at next none (x ∷ xs) new is shown sized a b = cc
-ended_spans tokens at next (and items lead e) (x ∷ xs) new is shown sized a b =
-    record { shown = items_skip tokens at (and items lead e) (x ∷ xs) new (b (λ h. cc)) shown; sized = omega arith }
-ended_spans tokens at next (skip items) (x ∷ xs) new is shown sized a b =
-    record { shown = items_skip tokens at (skip items) (x ∷ xs) new (b (λ h. cc)) shown; sized = omega arith }
-
-pub listed_spans : (tokens : List Token) (listing : Listing) (made : Tree Note) (spot : Note) (xs : Items Note) (items : Items Nothing) (at behind next : ℕ) → made ≡ listed spot listing xs → spot ≡ (notes_of tokens).token at
-    → SpansItems tokens xs items behind next → behind ≡ at + list_opening_size listing → Spans tokens made (listed tt listing items) at next
-listed_spans tokens listing made spot xs items at behind next is noted_is spans where_is = record {
-  shown = is ∙ ap (λ n. listed n listing xs) noted_is ∙ ap (listed ((notes_of tokens).token at) listing) (spans.shown ∙ ap (λ k. noted_items (notes_of tokens) k items) where_is);
-  sized = omega (arith, spans.sized);
-}
-
-pub word_size : (form : ArrayForm) → form ≢ array_form.Brackets → list_opening_size (array form) ≡ 2
-word_size array_form.Brackets h = absurd (h refl)
-word_size _ h = refl
-
--- an item with a key
-pub item_keyed : (array_of : ArrayForm) (room : ℕ) (tokens : List Token) (at place : ℕ) (k : Form) (key : Tree Note) (r : Result (Entry (Item Expr)) Stop) → Spans tokens key k at place → 1 ≤ room - 1 → at ≤ place
-    → ((items : Items Nothing) → Leads room 200 (λ s. past_items (of_list (array array_of)) items s) (rest tokens at) (λ s. past_value (of_list (array array_of)) items k s) (rest tokens (place + 1)))
-    → AnswersKeyed key room tokens (place + 1) r → AnswersItem array_of room tokens at r
-item_keyed array_of room tokens at place k key (Ok r) spans deep ahead reads found = record {
-  lead = found.lead k;
-  form = found.form;
-  shown = λ xs. found.shown xs k at spans.shown ∙ ap (λ n. and xs (noted_lead (notes_of tokens) at (found.lead k)) (noted (notes_of tokens) n found.form)) (omega (arith, found.lead_sized k, spans.sized));
-  sized = omega (arith, found.sized, found.lead_sized k, spans.sized);
-  flat = found.flat;
-  reads = λ items. leads (λ s. past_value (of_list (array array_of)) items k s) (reads items) (found.reads array_of items k);
-  rests = found.rests;
-  no_key = λ a. let b = found.keyed k in cc;
-  deep = omega arith;
-  ahead = omega (arith, found.ahead);
-  within = found.within;
-}
-item_keyed array_of room tokens at place k key (Err e) spans deep ahead reads fails =
-    λ items. later tokens at (place + 1) (λ s. past_value (of_list (array array_of)) items k s) e (omega arith) (reads items) (fails array_of items k)
-
-pub shut_array : (form : ArrayForm) (lead : Lead Nothing) (v : List Symbol) → head_continuation v ≢ closes sign.comma → head_continuation v ≢ closes (closer_in form) → (is_plain lead ≡ true → head_continuation v ≢ closes sign.double_arrow)
-    → Shut (of_list (array form)) lead v
-shut_array array_form.Brackets lead v a b d = record { no_comma = a; no_paren = λ h. cc; no_bracket = λ h. b; no_key = λ h. d }
-shut_array array_form.Array lead v a b d = record { no_comma = a; no_paren = λ h. b; no_bracket = λ h. cc; no_key = λ h. d }
-shut_array array_form.List lead v a b d = record { no_comma = a; no_paren = λ h. b; no_bracket = λ h. cc; no_key = λ h. d }

@@ -21,7 +21,8 @@ use Rattle.php_ast.proofs.Fill.{least_power_most}
 use Rattle.php_parse_body.specs.Walk.{Leads, Halts, Rests, walk, short}
 use Rattle.php_parse_body.specs.Seen.{head_word, named_class, head_class, Mold, is_bytes, is_opened, is_over, is_other, mold, head_mold}
 use Rattle.php_parse_body.specs.Parts.{piece_parts, step_parts}
-use Rattle.php_parse_body.specs.Answer.{Spans, SpansItems}
+use Rattle.php_parse_body.specs.Answer.{Spans}
+use Rattle.php_parse_body.specs.ListAnswer.{SpansItems}
 use Rattle.php_parse_body.proofs.Views.{piece_push, step_push}
 use Rattle.php_parse_body.proofs.Moves.{leads, leads_halts, move, sticks, behind_draw}
 use Rattle.php_parse_body.proofs.Productions.{between_reads, between_unclosed}

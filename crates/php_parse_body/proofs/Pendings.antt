@@ -12,13 +12,13 @@ use Rattle.php_parse_body.specs.declared.reader.Read.{Read}
 use Rattle.php_parse_body.specs.declared.pending.Between.{Between}
 use Rattle.php_parse_body.specs.declared.pending.Between.TheVariants as between
 use Rattle.php_parse_body.specs.declared.pending.Pending.{Pending}
-use Rattle.php_parse_body.specs.declared.pending.Step.{Step}
-use Rattle.php_parse_body.specs.declared.pending.Step.TheVariants as step
+use Rattle.php_parse_body.specs.declared.pending.Onward.{Onward}
+use Rattle.php_parse_body.specs.declared.pending.Onward.TheVariants as onward
 use Rattle.php_parse_body.specs.BetweenView.{row_between}
 use Rattle.php_parse_body.specs.Seen.{rest}
 use Rattle.php_parse_body.specs.Walk.{Leads, Rests}
 use Rattle.php_parse_body.specs.Answer.{Fails, Found}
-use Rattle.php_parse_body.specs.Climb.{Completes, Waits, StepsFrom, Inside, Pends}
+use Rattle.php_parse_body.specs.Climb.{Completes, Waits, LeadsOn, Inside, Pends}
 use Rattle.php_parse_body.proofs.Moves.{leads, weaken}
 use Rattle.php_parse_body.proofs.Joins.{operator_reads, operator_rests, right_bounds}
 use Rattle.php_parse_body.proofs.Fails.{later, within}
@@ -95,11 +95,11 @@ waits_behind tokens start mid p next a h = record {
   within = h.within;
 }
 
-pub steps_behind : {room level : ℕ} {from : OpenForms → State} {x w : List Symbol} (tokens : List Token) (start at place : ℕ) (mid : OpenForms → State) (r : Result Step Stop) → at ≤ place
-    → Leads room level from x mid w → StepsFrom room level mid w tokens start place r → StepsFrom room level from x tokens start at r
-steps_behind tokens start at place mid (Ok (step.Behind r)) ahead a h = behind 50 tokens start at place mid (Ok r) ahead a h
-steps_behind tokens start at place mid (Ok (step.Inside p next)) ahead a h = (waits_behind tokens start mid p next a h.0, omega (arith, h.1))
-steps_behind tokens start at place mid (Err e) ahead a h = later tokens at place mid e ahead a h
+pub onward_behind : {room level : ℕ} {from : OpenForms → State} {x w : List Symbol} (tokens : List Token) (start at place : ℕ) (mid : OpenForms → State) (r : Result Onward Stop) → at ≤ place
+    → Leads room level from x mid w → LeadsOn room level mid w tokens start place r → LeadsOn room level from x tokens start at r
+onward_behind tokens start at place mid (Ok (onward.Behind r)) ahead a h = behind 50 tokens start at place mid (Ok r) ahead a h
+onward_behind tokens start at place mid (Ok (onward.Inside p next)) ahead a h = (waits_behind tokens start mid p next a h.0, omega (arith, h.1))
+onward_behind tokens start at place mid (Err e) ahead a h = later tokens at place mid e ahead a h
 
 -- ---- lists of them
 

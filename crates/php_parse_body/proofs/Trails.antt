@@ -19,7 +19,8 @@ use Rattle.php_ast.specs.Machine.{Nothing, Form, OpenForm, index_open, computed_
 use Rattle.php_ast.specs.Laws.{head_continuation}
 use Rattle.php_parse_body.specs.Walk.{Leads, Halts, Rests, walk, short}
 use Rattle.php_parse_body.specs.Seen.{test, head_member}
-use Rattle.php_parse_body.specs.Answer.{Spans, SpansItems}
+use Rattle.php_parse_body.specs.Answer.{Spans}
+use Rattle.php_parse_body.specs.ListAnswer.{SpansItems}
 use Rattle.php_parse_body.proofs.Moves.{leads, leads_halts, move, sink, sticks, suffix}
 use Rattle.php_parse_body.proofs.Enters.{index_enters}
 use Rattle.php_parse_body.proofs.Productions.{between_reads, between_unclosed}

@@ -11,8 +11,8 @@ use Rattle.php_ast.specs.Depth.{deepened}
 use Rattle.php_parse_body.specs.declared.fail.Stop.{Stop}
 use Rattle.php_parse_body.specs.declared.reader.Read.{Read}
 use Rattle.php_parse_body.specs.declared.pending.Pending.{Pending}
-use Rattle.php_parse_body.specs.declared.pending.Step.{Step}
-use Rattle.php_parse_body.specs.declared.pending.Step.TheVariants as step
+use Rattle.php_parse_body.specs.declared.pending.Onward.{Onward}
+use Rattle.php_parse_body.specs.declared.pending.Onward.TheVariants as onward
 use Rattle.php_parse_body.specs.BetweenView.{row_between, closed_view}
 use Rattle.php_parse_body.specs.Seen.{rest}
 use Rattle.php_parse_body.specs.Walk.{Leads}
@@ -39,20 +39,20 @@ pub record Waits (room level : ℕ) (from : OpenForms → State) (w : List Symbo
   pub within : next ≤ length tokens
 
 -- Behind what was read, an operator leads behind a longer expression or into its right side.
-abbrev pub StepsFrom : ℕ → ℕ → (OpenForms → State) → List Symbol → List Token → ℕ → ℕ → Result Step Stop → Type 0
-StepsFrom room level from w tokens start at (Ok (step.Behind r)) = Found room level 50 from w tokens start at r
-StepsFrom room level from w tokens start at (Ok (step.Inside p next)) = Waits room level from w tokens start p next × (at < next)
-StepsFrom room level from w tokens start at (Err e) = Fails room level from w tokens at e
+abbrev pub LeadsOn : ℕ → ℕ → (OpenForms → State) → List Symbol → List Token → ℕ → ℕ → Result Onward Stop → Type 0
+LeadsOn room level from w tokens start at (Ok (onward.Behind r)) = Found room level 50 from w tokens start at r
+LeadsOn room level from w tokens start at (Ok (onward.Inside p next)) = Waits room level from w tokens start p next × (at < next)
+LeadsOn room level from w tokens start at (Err e) = Fails room level from w tokens at e
 
-abbrev pub AnswersStep : Read → ℕ → ℕ → List Token → Result Step Stop → Type 0
-AnswersStep left level room tokens r =
-    (f : Form) (start : ℕ) → Spans tokens (view left.expr) f start left.next → ends f ≡ left.edge → StepsFrom room level (λ s. holds f s) (rest tokens left.next) tokens start left.next r
+abbrev pub AnswersOnward : Read → ℕ → ℕ → List Token → Result Onward Stop → Type 0
+AnswersOnward left level room tokens r =
+    (f : Form) (start : ℕ) → Spans tokens (view left.expr) f start left.next → ends f ≡ left.edge → LeadsOn room level (λ s. holds f s) (rest tokens left.next) tokens start left.next r
 
 -- likewise behind the middle of a `? :`
-abbrev pub AnswersHalf : Read → Read → ℕ → ℕ → List Token → Result Step Stop → Type 0
+abbrev pub AnswersHalf : Read → Read → ℕ → ℕ → List Token → Result Onward Stop → Type 0
 AnswersHalf left middle level room tokens r =
     (f m : Form) (start : ℕ) → Spans tokens (view left.expr) f start left.next → Spans tokens (view middle.expr) m (left.next + 1) middle.next
-    → StepsFrom room level (λ s. holds m (then_open f ∷ s)) (rest tokens middle.next) tokens start middle.next r
+    → LeadsOn room level (λ s. holds m (then_open f ∷ s)) (rest tokens middle.next) tokens start middle.next r
 
 -- From `at` on an operator was read, and more from where its right side begins.
 pub record Inside (room level : ℕ) (tokens : List Token) (at : ℕ) (p : Pending) (More : ℕ → Type 0) : Type 0 where

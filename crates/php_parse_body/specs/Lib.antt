@@ -2,6 +2,7 @@ pub mod SignView
 pub mod Walk
 pub mod Seen
 pub mod Answer
+pub mod ListAnswer
 pub mod Parts
 pub mod Flat
 pub mod Exact

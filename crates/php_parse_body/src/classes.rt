@@ -5,7 +5,8 @@ ghost use Rattle.php_ast.specs.Tree.{thin, class_found, from};
 ghost use Rattle.php_ast.specs.Sign as sign;
 ghost use Rattle.php_ast.specs.Sign.{beginning, continuation, draws};
 ghost use Rattle.php_lex.specs.Token.{token_at};
-ghost use Rattle.php_parse_body.specs.Answer.{AnswersClass, AnswersLeaf, AnswersStep, Ready, SeesArguments, SeesStep};
+ghost use Rattle.php_parse_body.specs.Answer.{AnswersLeaf, Ready};
+ghost use Rattle.php_parse_body.specs.ListAnswer.{AnswersClass, AnswersStep, SeesArguments, SeesStep};
 ghost use Rattle.php_parse_body.specs.Seen.{SeesClass, Shows, named_class};
 
 use crate::build::{made, made_with};

@@ -5,7 +5,7 @@ ghost use Rattle.php_parse_body.specs.Answer.{AnswersHere, AnswersNone, Ready, S
 
 use crate::fail::Stop;
 use crate::look::{next_at, start_at};
-use crate::pending::Step;
+use crate::pending::Onward;
 use crate::reader::{Read, Reader};
 use crate::sign::{Infix, Next, Start, infix_strength};
 use php_lex::Tokens;
@@ -55,8 +55,8 @@ impl<F: Fn(Global, &Tokens, usize, u8, usize) -> Result<Read, Stop>> Reader<F> {
         loop {
             match operator_at(tokens, read.next, inner, read.edge) {
                 Some(op) => match self.link(tokens, read, op, inner, room)? {
-                    Step::Behind(longer) => read = longer,
-                    Step::Inside(outer, next) => {
+                    Onward::Behind(longer) => read = longer,
+                    Onward::Inside(outer, next) => {
                         inner = outer.right();
                         pending.push(outer)?;
                         read = self.first(tokens, next, room)?;

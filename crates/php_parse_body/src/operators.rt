@@ -9,7 +9,7 @@ ghost use Rattle.php_ast.specs.Proper.{edge};
 ghost use Rattle.php_ast.specs.Sign as sign;
 ghost use Rattle.php_ast.specs.Sign.{beginning, closes, continuation, draws, draw_strength, is_colon};
 ghost use Rattle.php_parse_body.specs.Answer.{AnswersBehind, Ready};
-ghost use Rattle.php_parse_body.specs.Climb.{AnswersHalf, AnswersStep};
+ghost use Rattle.php_parse_body.specs.Climb.{AnswersHalf, AnswersOnward};
 ghost use Rattle.php_parse_body.specs.declared.sign.Opening.TheVariants.{Static};
 ghost use Rattle.php_parse_body.specs.Seen.{Shows};
 ghost use Rattle.php_parse_body.specs.SignView.{infix_view, opening_view};
@@ -17,7 +17,7 @@ ghost use Rattle.php_parse_body.specs.SignView.{infix_view, opening_view};
 use crate::build::{checked, checked_static, joined};
 use crate::fail::Stop;
 use crate::look::{ends_with, opening_at, sees_colon, spot};
-use crate::pending::{Between, Pending, Step, edge_of, right_of};
+use crate::pending::{Between, Pending, Onward, edge_of, right_of};
 use crate::prefixes::lacks_colons;
 use crate::reader::{Read, Reader, discard, unclosed};
 use crate::sign::{Closer, Infix, Opening};
@@ -51,14 +51,14 @@ fn half_chosen(
     left: Read,
     middle: Read,
     level: u8,
-) -> Result<Step, Stop>
+) -> Result<Onward, Stop>
     requires colon { Shows continuation tokens.now middle.next (closes sign.colon) }
     requires near { level ≤ choice_row.power }
     ensures { (room : ℕ) → 2 ≤ room → AnswersHalf left middle level room tokens.now result }
 {
     let next = middle.next + 1;
     let between = Between::Choice(Boxed::new(alloc, middle.expr)?);
-    Ok(Step::Inside(
+    Ok(Onward::Inside(
         Pending {
             left: left.expr,
             between,
@@ -94,17 +94,17 @@ impl<F: Fn(Global, &Tokens, usize, u8, usize) -> Result<Read, Stop>> Reader<F> {
         op: Binary,
         level: u8,
         room: usize,
-    ) -> Result<Step, Stop>
+    ) -> Result<Onward, Stop>
         requires ready { Ready self.now.bound room (F.pre self.now.expr) (F.post self.now.expr) }
         requires here { Shows continuation tokens.now left.next (draws (sign.joins op)) }
         requires near { level ≤ (binary_row op).power }
         requires low { (binary_row op).power < left.edge }
-        ensures { AnswersStep left level room tokens.now result }
+        ensures { AnswersOnward left level room tokens.now result }
     {
         if depth_of(op) == 1 {
-            return Ok(Step::Behind(self.to_right(tokens, left, op, room)?));
+            return Ok(Onward::Behind(self.to_right(tokens, left, op, room)?));
         }
-        Ok(Step::Inside(
+        Ok(Onward::Inside(
             Pending {
                 left: left.expr,
                 between: Between::Joins(op),
@@ -115,16 +115,16 @@ impl<F: Fn(Global, &Tokens, usize, u8, usize) -> Result<Read, Stop>> Reader<F> {
     }
 
     /// Goes on behind `left` with `? :`, from the `?` on, into its right side.
-    fn chosen(&self, tokens: &Tokens, left: Read, level: u8, room: usize) -> Result<Step, Stop>
+    fn chosen(&self, tokens: &Tokens, left: Read, level: u8, room: usize) -> Result<Onward, Stop>
         requires ready { Ready self.now.bound room (F.pre self.now.expr) (F.post self.now.expr) }
         requires here { Shows continuation tokens.now left.next (draws sign.chooses) }
         requires near { level ≤ choice_row.power }
         requires low { choice_row.power < left.edge }
-        ensures { AnswersStep left level room tokens.now result }
+        ensures { AnswersOnward left level room tokens.now result }
     {
         let place = left.next + 1;
         if sees_colon(tokens, place) {
-            return Ok(Step::Inside(
+            return Ok(Onward::Inside(
                 Pending {
                     left: left.expr,
                     between: Between::ShortChoice,
@@ -198,17 +198,17 @@ impl<F: Fn(Global, &Tokens, usize, u8, usize) -> Result<Read, Stop>> Reader<F> {
         op: Infix,
         level: u8,
         room: usize,
-    ) -> Result<Step, Stop>
+    ) -> Result<Onward, Stop>
         requires ready { Ready self.now.bound room (F.pre self.now.expr) (F.post self.now.expr) }
         requires here { Shows continuation tokens.now left.next (draws (infix_view op)) }
         requires near { level ≤ draw_strength (infix_view op) }
         requires low { draw_strength (infix_view op) < left.edge }
-        ensures { AnswersStep left level room tokens.now result }
+        ensures { AnswersOnward left level room tokens.now result }
     {
         match op {
             Infix::Joins(binary) => self.joined(tokens, left, binary, level, room),
             Infix::Chooses => self.chosen(tokens, left, level, room),
-            Infix::Checks => Ok(Step::Behind(self.checked(tokens, left, room)?)),
+            Infix::Checks => Ok(Onward::Behind(self.checked(tokens, left, room)?)),
         }
     }
 }

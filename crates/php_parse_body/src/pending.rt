@@ -35,7 +35,7 @@ pub(crate) struct Pending {
 
 /// Where an operator behind an expression leads.
 #[derive(Drop)]
-pub(crate) enum Step {
+pub(crate) enum Onward {
     /// Behind a longer expression.
     Behind(Read),
     /// Into its right side, which begins at a place.

@@ -5,7 +5,8 @@ use Rattle.php_ast.specs.declared.operator.ArrayForm.TheVariants as array_form
 use Rattle.php_ast.specs.Tree.{none, listed, array}
 use Rattle.php_ast.specs.Machine.{past_items, of_list}
 use Rattle.php_parse_body.proofs.Moves.{leads}
-use Rattle.php_parse_body.proofs.Listings.{brackets_open, listed_spans}
+use Rattle.php_parse_body.proofs.Listings.{brackets_open}
+use Rattle.php_parse_body.proofs.ListNotes.{listed_spans}
 use Rattle.php_parse_body.proofs.reader.Reader.brackets.Goals as goal
 
 pub returns-in_err-items : goal.returns-in_err-items

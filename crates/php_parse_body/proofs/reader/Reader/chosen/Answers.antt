@@ -2,7 +2,7 @@ use Rattle.std.proofs.Common.{◌≡◌, ◌+◌, ◌-◌, ◌∙◌, ◌∷◌,
 use Rattle.php_ast.specs.Machine.{short_open, then_open, expects, holds}
 use Rattle.php_parse_body.proofs.Fails.{between}
 use Rattle.php_parse_body.proofs.Moves.{leads, inside}
-use Rattle.php_parse_body.proofs.Pendings.{steps_behind}
+use Rattle.php_parse_body.proofs.Pendings.{onward_behind}
 use Rattle.php_parse_body.proofs.Joins.{short_opens, short_spans, then_opens, then_unclosed}
 use Rattle.php_parse_body.proofs.reader.Reader.chosen.Goals as goal
 
@@ -46,7 +46,7 @@ pub returns : goal.returns
 returns g c = λ f start spans is.
     let o = c.requires.here in
     let r = c.in-Ok.ensures in
-    steps_behind c.args.tokens.now start c.args.left.next _ (λ s. holds r.form (then_open f ∷ s)) _ (omega (arith, r.ahead))
+    onward_behind c.args.tokens.now start c.args.left.next _ (λ s. holds r.form (then_open f ∷ s)) _ (omega (arith, r.ahead))
     (leads (λ s. expects (then_open f ∷ s)) (then_opens o.token f o.stands.is o.role_is c.requires.near (omega arith) c.if-sees_colon.ensures c.requires.ready.deep)
     (inside (c.args.room - 1) 1 (then_open f) (inl refl) (omega arith) (λ d. omega arith) r.reads))
     (c.half_chosen.ensures c.args.room (omega arith) f r.form start spans r.spans)

@@ -4,7 +4,8 @@ use Rattle.php_parse_body.proofs.Fails.{later, within, between, fewer}
 use Rattle.php_ast.specs.Tree.{none, listed, isset}
 use Rattle.php_ast.specs.Machine.{past_items, of_list}
 use Rattle.php_parse_body.proofs.Moves.{leads}
-use Rattle.php_parse_body.proofs.Listings.{isset_opens, isset_halts, listed_spans}
+use Rattle.php_parse_body.proofs.Listings.{isset_opens, isset_halts}
+use Rattle.php_parse_body.proofs.ListNotes.{listed_spans}
 use Rattle.php_parse_body.proofs.reader.Reader.isset.Goals as goal
 
 pub returns-then-not-sees_paren : goal.returns-then-not-sees_paren

@@ -7,7 +7,8 @@ use Rattle.php_ast.specs.Tree.{and, plain, reference, keyed, array}
 use Rattle.php_ast.specs.Placed.{size, noted, notes_of}
 use Rattle.php_ast.specs.Machine.{of_list, holds, items_open, past_value}
 use Rattle.php_parse_body.proofs.Moves.{leads}
-use Rattle.php_parse_body.proofs.Listings.{reference_opens, reference_halts, item_opens, item_in, item_keyed, key_reads}
+use Rattle.php_parse_body.proofs.Listings.{reference_opens, reference_halts, item_opens, item_in, key_reads}
+use Rattle.php_parse_body.proofs.ListNotes.{item_keyed}
 use Rattle.php_parse_body.proofs.reader.Reader.item.Goals as goal
 
 pub returns-then-room-eq1 : goal.returns-then-room-eq1

@@ -1,5 +1,5 @@
 use Rattle.std.proofs.Common.{◌-◌, length}
-use Rattle.php_parse_body.specs.Answer.{ItemsSoFar}
+use Rattle.php_parse_body.specs.ListAnswer.{ItemsSoFar}
 use Rattle.php_parse_body.proofs.reader.Reader.items.Given as goal
 
 abbrev pub invariant-loop-form : goal.invariant-loop-form

@@ -1,5 +1,5 @@
 use Rattle.std.proofs.Common.{◌-◌, length}
-use Rattle.php_parse_body.specs.Answer.{PiecesSoFar}
+use Rattle.php_parse_body.specs.ListAnswer.{PiecesSoFar}
 use Rattle.php_parse_body.proofs.reader.Reader.pieces.Given as goal
 
 abbrev pub invariant-loop-items : goal.invariant-loop-items

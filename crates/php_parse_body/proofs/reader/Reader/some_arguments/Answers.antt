@@ -5,7 +5,8 @@ use Rattle.php_parse_body.proofs.Fails.{later, within, between, fewer}
 use Rattle.php_ast.specs.Tree.{none, and}
 use Rattle.php_ast.specs.Machine.{holds, past_items, items_open}
 use Rattle.php_parse_body.proofs.Moves.{leads, leads_halts}
-use Rattle.php_parse_body.proofs.Listings.{comma_reads, paren_reads, item_unclosed, paren_halts, arguments_paren, arguments_no_array, arguments_more}
+use Rattle.php_parse_body.proofs.Listings.{comma_reads, paren_reads, item_unclosed, paren_halts, arguments_paren, arguments_no_array}
+use Rattle.php_parse_body.proofs.ListNotes.{arguments_more}
 use Rattle.std.proofs.Common.{map}
 use Rattle.php_ast.specs.View.{arguments_from}
 use Rattle.php_parse_body.specs.Parts.{argument_parts}

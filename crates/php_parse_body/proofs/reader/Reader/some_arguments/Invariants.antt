@@ -1,5 +1,5 @@
 use Rattle.std.proofs.Common.{◌-◌, length}
-use Rattle.php_parse_body.specs.Answer.{ArgumentsSoFar}
+use Rattle.php_parse_body.specs.ListAnswer.{ArgumentsSoFar}
 use Rattle.php_parse_body.proofs.reader.Reader.some_arguments.Given as goal
 
 abbrev pub invariant-loop-items : goal.invariant-loop-items

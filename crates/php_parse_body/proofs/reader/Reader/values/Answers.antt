@@ -5,7 +5,8 @@ use Rattle.php_parse_body.proofs.Fails.{later, within, between, fewer}
 use Rattle.php_ast.specs.Tree.{none, and, plain, isset}
 use Rattle.php_ast.specs.Machine.{holds, past_items, items_open, of_list, after}
 use Rattle.php_parse_body.proofs.Moves.{leads, leads_halts}
-use Rattle.php_parse_body.proofs.Listings.{value_opens, item_in, comma_reads, paren_reads, item_unclosed, values_more}
+use Rattle.php_parse_body.proofs.Listings.{value_opens, item_in, comma_reads, paren_reads, item_unclosed}
+use Rattle.php_parse_body.proofs.ListNotes.{values_more}
 use Rattle.std.proofs.Common.{map}
 use Rattle.php_ast.specs.View.{view, values_from}
 use Rattle.php_parse_body.specs.Flat.{Shape, shape, are_flat}

@@ -1,5 +1,5 @@
 use Rattle.std.proofs.Common.{◌-◌, length}
-use Rattle.php_parse_body.specs.Answer.{ValuesSoFar}
+use Rattle.php_parse_body.specs.ListAnswer.{ValuesSoFar}
 use Rattle.php_parse_body.proofs.reader.Reader.values.Given as goal
 
 abbrev pub invariant-loop-items : goal.invariant-loop-items

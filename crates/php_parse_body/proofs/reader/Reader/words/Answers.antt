@@ -4,7 +4,8 @@ use Rattle.php_parse_body.proofs.Fails.{later, within, between, fewer}
 use Rattle.php_ast.specs.Tree.{none, listed, array}
 use Rattle.php_ast.specs.Machine.{past_items, of_list}
 use Rattle.php_parse_body.proofs.Moves.{leads}
-use Rattle.php_parse_body.proofs.Listings.{word_opens, word_halts, listed_spans, word_size}
+use Rattle.php_parse_body.proofs.Listings.{word_opens, word_halts}
+use Rattle.php_parse_body.proofs.ListNotes.{listed_spans, word_size}
 use Rattle.php_parse_body.proofs.reader.Reader.words.Goals as goal
 
 pub returns-then-not-sees_paren : goal.returns-then-not-sees_paren

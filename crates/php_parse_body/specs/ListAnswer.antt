@@ -1,0 +1,278 @@
+-- What the functions of the parser answer that read lists, classes and texts with parts.
+use Rattle.std.specs.Prelude.{◌≡◌, ◌≢◌, ◌≤◌, ◌<◌, ℕ, suc, ◌+◌, ◌-◌, ◌*◌, Bool, true, false, Option, Some, None, Result, Ok, Err, List, [], ◌∷◌, map, length}
+use Rattle.std.specs.declared.alloc.Global.{Global}
+use denote.Ref.{Bor}
+use Rattle.php_lex.specs.Token.{Token, token_at}
+use Rattle.php_ast.specs.declared.expression.Expr.{Expr}
+use Rattle.php_ast.specs.declared.expression.Argument.{Argument}
+use Rattle.php_ast.specs.declared.expression.Item.{Item}
+use Rattle.php_ast.specs.declared.expression.Class.{Class}
+use Rattle.php_ast.specs.declared.expression.Suffix.{Suffix}
+use Rattle.php_ast.specs.declared.operator.ArrayForm.{ArrayForm}
+use Rattle.php_ast.specs.declared.operator.ArrayForm.TheVariants as array_form
+use Rattle.php_ast.specs.Symbol.{Symbol}
+use Rattle.php_ast.specs.Tree as tree
+use Rattle.php_ast.specs.Tree.{Tree, array, isset}
+use Rattle.php_ast.specs.Proper.{ends, ends_bare, right, is_call, is_none}
+use Rattle.php_ast.specs.View as shown
+use Rattle.php_ast.specs.View.{Note, view}
+use Rattle.php_ast.specs.Placed.{size, size_items, size_lead, size_class, size_steps, size_pieces, comma_size, Notes, noted, noted_items, noted_lead, noted_class, noted_steps, noted_pieces, notes_of}
+use Rattle.php_ast.specs.Sign as sign
+use Rattle.php_ast.specs.Sign.{closes, continuation, draws, draw_strength, ends_yield}
+use Rattle.php_ast.specs.Laws.{head_continuation}
+use Rattle.php_ast.specs.Machine.{Nothing, Form, Holder, of_list, is_arguments, is_plain, items_open, closed_with, OpenForms, State, expects, holds, past_items, past_value, past_new, past_class, past_template, after, yield_open, then_open}
+use Rattle.php_parse_body.specs.declared.fail.Stop.{Stop}
+use Rattle.php_parse_body.specs.declared.fail.Stop.TheVariants.{Syntax, TooDeep, NoMemory}
+use Rattle.php_parse_body.specs.declared.reader.Read.{Read}
+use Rattle.php_parse_body.specs.declared.reader.Taken.{Taken}
+use Rattle.php_parse_body.specs.declared.reader.Operand.{Operand}
+use Rattle.php_parse_body.specs.declared.reader.Followed.{Followed}
+use Rattle.php_parse_body.specs.declared.reader.Listed.{Listed}
+use Rattle.php_parse_body.specs.declared.reader.Entry.{Entry}
+use Rattle.php_parse_body.specs.Parts as part
+use Rattle.php_parse_body.specs.Flat.{are_flat, is_flat_piece, are_flat_pieces, is_flat_item, are_flat_items, is_flat_argument, are_flat_arguments, are_flat_suffixes, is_flat_step, are_flat_steps, is_flat_class}
+use Rattle.php_parse_body.specs.declared.sign.Tail.{Tail}
+use Rattle.php_parse_body.specs.declared.sign.Opening.{Opening}
+use Rattle.php_parse_body.specs.declared.sign.Opening.TheVariants as opening
+use Rattle.php_ast.specs.declared.expression.ClassStep.{ClassStep}
+use Rattle.php_ast.specs.declared.expression.Piece.{Piece}
+use Rattle.php_ast.specs.declared.operator.Binary.{Binary}
+use Rattle.php_ast.specs.Nesting.{right_depth}
+use Rattle.php_ast.specs.Power.{binary_row}
+use Rattle.php_parse_body.specs.SignView.{tail_view, infix_view}
+use Rattle.php_parse_body.specs.declared.prefixes.Change.{Change}
+use Rattle.php_parse_body.specs.declared.prefixes.Change.TheVariants as change
+use Rattle.php_parse_body.specs.declared.sign.Infix.{Infix}
+use Rattle.php_parse_body.specs.declared.classes.StepKind.{StepKind}
+use Rattle.php_parse_body.specs.declared.classes.StepKind.TheVariants as step_kind
+use Rattle.php_parse_body.specs.Seen.{rest, Shows}
+use Rattle.php_parse_body.specs.Walk.{Leads, Halts, Rests}
+use Rattle.php_parse_body.specs.Answer.{Fails}
+
+-- ---- lists, from behind their opening token
+
+-- what ends the items of an array or a list
+abbrev pub closer_in : ArrayForm → sign.Closer
+closer_in array_form.Brackets = sign.bracket
+closer_in _ = sign.paren
+
+-- the form of what was listed, up to the closing token before a place
+pub record SpansItems (tokens : List Token) (xs : tree.Items Note) (items : tree.Items Nothing) (at next : ℕ) : Type 0 where
+  pub shown : xs ≡ noted_items (notes_of tokens) at items
+  pub sized : at + size_items items + 1 ≡ next
+
+pub record FoundArguments (room : ℕ) (tokens : List Token) (at : ℕ) (r : Listed (Argument Expr)) : Type 0 where
+  pub items : tree.Items Nothing
+  pub spans : SpansItems tokens (shown.arguments_from tree.none (map part.argument_parts r.items)) items at r.next
+  pub flat : are_flat_arguments r.items ≡ true
+  pub reads : (h : Holder) → is_arguments h ≡ true → Leads room 200 (λ s. past_items h tree.none s) (rest tokens at) (λ s. after (closed_with h items) s) (rest tokens r.next)
+  pub ahead : at < r.next
+  pub within : r.next ≤ length tokens
+
+abbrev pub AnswersArguments : ℕ → List Token → ℕ → Result (Listed (Argument Expr)) Stop → Type 0
+AnswersArguments room tokens at (Ok r) = FoundArguments room tokens at r
+AnswersArguments room tokens at (Err e) = (h : Holder) → is_arguments h ≡ true → Fails room 200 (λ s. past_items h tree.none s) (rest tokens at) tokens at e
+
+pub record FoundItems (form : ArrayForm) (room : ℕ) (tokens : List Token) (at : ℕ) (r : Listed (Item Expr)) : Type 0 where
+  pub items : tree.Items Nothing
+  pub spans : SpansItems tokens (shown.items_from tree.none (map part.item_parts r.items)) items at r.next
+  pub flat : are_flat_items r.items ≡ true
+  pub reads : Leads room 200 (λ s. past_items (of_list (array form)) tree.none s) (rest tokens at) (λ s. holds (tree.listed tt (array form) items) s) (rest tokens r.next)
+  pub ahead : at < r.next
+  pub within : r.next ≤ length tokens
+
+abbrev pub AnswersItems : ArrayForm → ℕ → List Token → ℕ → Result (Listed (Item Expr)) Stop → Type 0
+AnswersItems form room tokens at (Ok r) = FoundItems form room tokens at r
+AnswersItems form room tokens at (Err e) = Fails room 200 (λ s. past_items (of_list (array form)) tree.none s) (rest tokens at) tokens at e
+
+pub record FoundValues (room : ℕ) (tokens : List Token) (at : ℕ) (r : Listed Expr) : Type 0 where
+  pub items : tree.Items Nothing
+  pub spans : SpansItems tokens (shown.values_from tree.none (map view r.items)) items at r.next
+  pub flat : are_flat r.items ≡ true
+  pub reads : Leads room 200 (λ s. past_items (of_list isset) tree.none s) (rest tokens at) (λ s. holds (tree.listed tt isset items) s) (rest tokens r.next)
+  pub ahead : at < r.next
+  pub within : r.next ≤ length tokens
+
+abbrev pub AnswersValues : ℕ → List Token → ℕ → Result (Listed Expr) Stop → Type 0
+AnswersValues room tokens at (Ok r) = FoundValues room tokens at r
+AnswersValues room tokens at (Err e) = Fails room 200 (λ s. past_items (of_list isset) tree.none s) (rest tokens at) tokens at e
+
+-- an item of a list, before the comma or the closing token behind it
+pub record FoundItem (array_of : ArrayForm) (room : ℕ) (tokens : List Token) (at : ℕ) (r : Entry (Item Expr)) : Type 0 where
+  pub lead : tree.Lead Nothing
+  pub form : Form
+  pub shown : (xs : tree.Items Note) → shown.item_more xs (part.item_parts r.item) ≡ tree.and xs (noted_lead (notes_of tokens) at lead) (noted (notes_of tokens) (at + size_lead lead) form)
+  pub sized : at + size_lead lead + size form ≡ r.next
+  pub flat : is_flat_item r.item ≡ true
+  pub reads : (items : tree.Items Nothing) → Leads room 200 (λ s. past_items (of_list (array array_of)) items s) (rest tokens at) (λ s. holds form (items_open (of_list (array array_of)) items lead ∷ s)) (rest tokens r.next)
+  pub rests : Rests 1 (ends form) (rest tokens r.next)
+  pub no_key : is_plain lead ≡ true → head_continuation (rest tokens r.next) ≢ closes sign.double_arrow
+  pub deep : 2 ≤ room
+  pub ahead : at < r.next
+  pub within : r.next ≤ length tokens
+
+-- the value behind the `=>` of a key
+pub record FoundKeyed (key : Tree Note) (room : ℕ) (tokens : List Token) (at : ℕ) (r : Entry (Item Expr)) : Type 0 where
+  pub lead : Form → tree.Lead Nothing
+  pub form : Form
+  pub lead_size : ℕ
+  pub shown : (xs : tree.Items Note) (k : Form) (start : ℕ) → key ≡ noted (notes_of tokens) start k
+      → shown.item_more xs (part.item_parts r.item) ≡ tree.and xs (noted_lead (notes_of tokens) start (lead k)) (noted (notes_of tokens) (at + lead_size) form)
+  pub lead_sized : (k : Form) → size_lead (lead k) ≡ size k + 1 + lead_size
+  pub keyed : (k : Form) → is_plain (lead k) ≡ false
+  pub sized : at + lead_size + size form ≡ r.next
+  pub flat : is_flat_item r.item ≡ true
+  pub reads : (form_of : ArrayForm) (items : tree.Items Nothing) (k : Form) → Leads room 200 (λ s. past_value (of_list (array form_of)) items k s) (rest tokens at) (λ s. holds form (items_open (of_list (array form_of)) items (lead k) ∷ s)) (rest tokens r.next)
+  pub rests : Rests 1 (ends form) (rest tokens r.next)
+  pub ahead : at < r.next
+  pub within : r.next ≤ length tokens
+
+abbrev pub AnswersItem : ArrayForm → ℕ → List Token → ℕ → Result (Entry (Item Expr)) Stop → Type 0
+AnswersItem form room tokens at (Ok r) = FoundItem form room tokens at r
+AnswersItem form room tokens at (Err e) = (items : tree.Items Nothing) → Fails room 200 (λ s. past_items (of_list (array form)) items s) (rest tokens at) tokens at e
+
+abbrev pub AnswersKeyed : Tree Note → ℕ → List Token → ℕ → Result (Entry (Item Expr)) Stop → Type 0
+AnswersKeyed key room tokens at (Ok r) = FoundKeyed key room tokens at r
+AnswersKeyed key room tokens at (Err e) = (form : ArrayForm) (items : tree.Items Nothing) (k : Form) → Fails room 200 (λ s. past_value (of_list (array form)) items k s) (rest tokens at) tokens at e
+
+-- an argument, before the comma or the parenthesis behind it
+pub record FoundArgument (room : ℕ) (tokens : List Token) (at : ℕ) (r : Entry (Argument Expr)) : Type 0 where
+  pub lead : tree.Lead Nothing
+  pub form : Form
+  pub shown : (xs : tree.Items Note) → shown.argument_more xs (part.argument_parts r.item) ≡ tree.and xs (noted_lead (notes_of tokens) at lead) (noted (notes_of tokens) (at + size_lead lead) form)
+  pub sized : at + size_lead lead + size form ≡ r.next
+  pub flat : is_flat_argument r.item ≡ true
+  pub reads : (h : Holder) (items : tree.Items Nothing) → is_arguments h ≡ true → Leads room 200 (λ s. past_items h items s) (rest tokens at) (λ s. holds form (items_open h items lead ∷ s)) (rest tokens r.next)
+  pub rests : Rests 1 (ends form) (rest tokens r.next)
+  pub deep : 2 ≤ room
+  pub ahead : at < r.next
+  pub within : r.next ≤ length tokens
+
+abbrev pub AnswersArgument : ℕ → List Token → ℕ → Result (Entry (Argument Expr)) Stop → Type 0
+AnswersArgument room tokens at (Ok r) = FoundArgument room tokens at r
+AnswersArgument room tokens at (Err e) = (h : Holder) (items : tree.Items Nothing) → is_arguments h ≡ true → Fails room 200 (λ s. past_items h items s) (rest tokens at) tokens at e
+
+-- ---- classes behind `new`
+
+-- a step behind other steps
+pub record FoundStep (room : ℕ) (tokens : List Token) (at : ℕ) (r : Entry (ClassStep Expr)) : Type 0 where
+  pub more : tree.Steps Nothing → tree.Steps Nothing
+  pub shown : (steps : tree.Steps Nothing) (start : ℕ) → start + size_steps steps ≡ at
+      → shown.step_more (noted_steps (notes_of tokens) start steps) (part.step_parts r.item) ≡ noted_steps (notes_of tokens) start (more steps)
+  pub sized : (steps : tree.Steps Nothing) → size_steps (more steps) + at ≡ size_steps steps + r.next
+  pub flat : is_flat_step r.item ≡ true
+  pub reads : (steps : tree.Steps Nothing) → Leads room 200 (λ s. past_class (tree.class_found steps) s) (rest tokens at) (λ s. past_class (tree.class_found (more steps)) s) (rest tokens r.next)
+  pub ahead : at < r.next
+  pub within : r.next ≤ length tokens
+
+abbrev pub AnswersStep : ℕ → List Token → ℕ → Result (Entry (ClassStep Expr)) Stop → Type 0
+AnswersStep room tokens at (Ok r) = FoundStep room tokens at r
+AnswersStep room tokens at (Err e) = (steps : tree.Steps Nothing) → Fails room 200 (λ s. past_class (tree.class_found steps) s) (rest tokens at) tokens at e
+
+abbrev pub is_found : tree.Class Nothing → Bool
+is_found (tree.class_found steps) = true
+is_found _ = false
+
+-- from a state before the class
+pub record FoundClass (from : OpenForms → State) (room : ℕ) (tokens : List Token) (at : ℕ) (r : Entry (Class Expr)) : Type 0 where
+  pub class : tree.Class Nothing
+  pub shown : shown.class_view (part.class_parts r.item) ≡ noted_class (notes_of tokens) at class
+  pub sized : at + size_class class ≡ r.next
+  pub flat : is_flat_class r.item ≡ true
+  pub reads : Leads room 200 from (rest tokens at) (λ s. past_class class s) (rest tokens r.next)
+  pub no_index : is_found class ≡ true → head_continuation (rest tokens r.next) ≢ draws sign.subscripts
+  pub no_arrow : is_found class ≡ true → head_continuation (rest tokens r.next) ≢ draws (sign.selects tree.thin)
+  pub ahead : at < r.next
+  pub within : r.next ≤ length tokens
+
+abbrev pub AnswersClass : ℕ → List Token → ℕ → Result (Entry (Class Expr)) Stop → Type 0
+AnswersClass room tokens at (Ok r) = FoundClass (λ s. past_new s) room tokens at r
+AnswersClass room tokens at (Err e) = Fails room 200 (λ s. past_new s) (rest tokens at) tokens at e
+
+-- ---- texts with parts
+
+pub record FoundPart (room : ℕ) (tokens : List Token) (at : ℕ) (r : Entry (Piece Expr)) : Type 0 where
+  pub form : Form
+  pub shown : (pieces : tree.Pieces Note) → shown.piece_more pieces (part.piece_parts r.item) ≡ tree.value pieces (noted (notes_of tokens) (at + 1) form)
+  pub sized : at + size form + 2 ≡ r.next
+  pub flat : is_flat_piece r.item ≡ true
+  pub reads : (pieces : tree.Pieces Nothing) → Leads room 200 (λ s. past_template pieces s) (rest tokens at) (λ s. past_template (tree.value pieces form) s) (rest tokens r.next)
+  pub ahead : at < r.next
+  pub within : r.next ≤ length tokens
+
+abbrev pub AnswersPart : ℕ → List Token → ℕ → Result (Entry (Piece Expr)) Stop → Type 0
+AnswersPart room tokens at (Ok r) = FoundPart room tokens at r
+AnswersPart room tokens at (Err e) = (pieces : tree.Pieces Nothing) → Fails room 200 (λ s. past_template pieces s) (rest tokens at) tokens at e
+
+pub record FoundPieces (room : ℕ) (tokens : List Token) (at : ℕ) (r : Listed (Piece Expr)) : Type 0 where
+  pub pieces : tree.Pieces Nothing
+  pub shown : shown.pieces_from tree.no_piece (map part.piece_parts r.items) ≡ noted_pieces (notes_of tokens) at pieces
+  pub sized : at + size_pieces pieces + 1 ≡ r.next
+  pub flat : are_flat_pieces r.items ≡ true
+  pub reads : Leads room 200 (λ s. past_template tree.no_piece s) (rest tokens at) (λ s. holds (tree.template tt pieces) s) (rest tokens r.next)
+  pub ahead : at < r.next
+  pub within : r.next ≤ length tokens
+
+abbrev pub AnswersPieces : ℕ → List Token → ℕ → Result (Listed (Piece Expr)) Stop → Type 0
+AnswersPieces room tokens at (Ok r) = FoundPieces room tokens at r
+AnswersPieces room tokens at (Err e) = Fails room 200 (λ s. past_template tree.no_piece s) (rest tokens at) tokens at e
+
+-- ---- what loops have read so far
+
+pub record ArgumentsSoFar (room : ℕ) (tokens : List Token) (at : ℕ) (xs : List (Argument Expr)) (next : ℕ) : Type 0 where
+  pub items : tree.Items Nothing
+  pub shown : shown.arguments_from tree.none (map part.argument_parts xs) ≡ noted_items (notes_of tokens) at items
+  pub sized : at + size_items items + comma_size items ≡ next
+  pub flat : are_flat_arguments xs ≡ true
+  pub reads : (h : Holder) → is_arguments h ≡ true → Leads room 200 (λ s. past_items h tree.none s) (rest tokens at) (λ s. past_items h items s) (rest tokens next)
+  pub no_end : head_continuation (rest tokens next) ≢ closes sign.paren
+  pub within : next ≤ length tokens
+
+pub record ValuesSoFar (room : ℕ) (tokens : List Token) (at : ℕ) (xs : List Expr) (next : ℕ) : Type 0 where
+  pub items : tree.Items Nothing
+  pub shown : shown.values_from tree.none (map view xs) ≡ noted_items (notes_of tokens) at items
+  pub sized : at + size_items items + comma_size items ≡ next
+  pub flat : are_flat xs ≡ true
+  pub reads : Leads room 200 (λ s. past_items (of_list isset) tree.none s) (rest tokens at) (λ s. past_items (of_list isset) items s) (rest tokens next)
+  pub within : next ≤ length tokens
+
+abbrev pub no_items : {A : Type 0} → List A → Bool
+no_items [] = true
+no_items (x ∷ xs) = false
+
+pub record ItemsSoFar (form : ArrayForm) (room : ℕ) (tokens : List Token) (at : ℕ) (xs : List (Item Expr)) (next : ℕ) : Type 0 where
+  pub items : tree.Items Nothing
+  pub shown : shown.items_from tree.none (map part.item_parts xs) ≡ noted_items (notes_of tokens) at items
+  pub sized : at + size_items items + comma_size items ≡ next
+  pub flat : are_flat_items xs ≡ true
+  pub none_is : is_none items ≡ no_items xs
+  pub reads : Leads room 200 (λ s. past_items (of_list (array form)) tree.none s) (rest tokens at) (λ s. past_items (of_list (array form)) items s) (rest tokens next)
+  pub within : next ≤ length tokens
+
+pub record PiecesSoFar (room : ℕ) (tokens : List Token) (at : ℕ) (xs : List (Piece Expr)) (next : ℕ) : Type 0 where
+  pub pieces : tree.Pieces Nothing
+  pub shown : shown.pieces_from tree.no_piece (map part.piece_parts xs) ≡ noted_pieces (notes_of tokens) at pieces
+  pub sized : at + size_pieces pieces ≡ next
+  pub flat : are_flat_pieces xs ≡ true
+  pub reads : Leads room 200 (λ s. past_template tree.no_piece s) (rest tokens at) (λ s. past_template pieces s) (rest tokens next)
+  pub within : next ≤ length tokens
+
+pub record StepsSoFar (room : ℕ) (tokens : List Token) (at : ℕ) (text : List ℕ) (xs : List (ClassStep Expr)) (next : ℕ) : Type 0 where
+  pub steps : tree.Steps Nothing
+  pub shown : shown.steps_from (noted_steps (notes_of tokens) at (tree.from (tt {0}) text)) (map part.step_parts xs) ≡ noted_steps (notes_of tokens) at steps
+  pub sized : at + size_steps steps ≡ next
+  pub flat : are_flat_steps xs ≡ true
+  pub reads : Leads room 200 (λ s. past_new s) (rest tokens at) (λ s. past_class (tree.class_found steps) s) (rest tokens next)
+  pub ahead : at < next
+  pub within : next ≤ length tokens
+
+-- whether a step follows to the name of a class
+abbrev pub SeesStep : List Token → ℕ → Option StepKind → Type 0
+SeesStep tokens at None = (head_continuation (rest tokens at) ≢ draws sign.subscripts) × (head_continuation (rest tokens at) ≢ draws (sign.selects tree.thin))
+SeesStep tokens at (Some step_kind.Property) = Shows continuation tokens at (draws (sign.selects tree.thin))
+SeesStep tokens at (Some step_kind.Index) = Shows continuation tokens at (draws sign.subscripts)
+
+-- whether arguments follow
+abbrev pub SeesArguments : List Token → ℕ → Bool → Type 0
+SeesArguments tokens at true = Shows continuation tokens at (draws sign.applies)
+SeesArguments tokens at false = head_continuation (rest tokens at) ≢ draws sign.applies
