@@ -151,6 +151,38 @@ const NEIGHBOURS: &[Row] = &[
     ),
 ];
 
+// Several operators wait for their right side, and one of less power, or the end, completes them all or only some.
+const WAITING: &[Row] = &[
+    (
+        "1 or 2 and 3 && 4 + 5 * 6 or 7;",
+        "{1 or {2 and {3 && {4 + {5 * 6}}}} or 7} @13",
+    ),
+    ("1 + 2 * 3 ** 4 - 5;", "{1 + {2 * <3 ** 4>} - 5} @9"),
+    ("1 && 2 + 3 * 4 << 5;", "{1 && {{2 + {3 * 4}} << 5}} @9"),
+    (
+        "1 || 2 ? 3 + 4 : 5 && 6 ? 7 : 8 or 9;",
+        "{{{1 || 2} ? {3 + 4} : {5 && 6} ? 7 : 8} or 9} @17",
+    ),
+    ("1 ?: 2 * 3 + 4 ?: 5;", "{1 ?: {{2 * 3} + 4} ?: 5} @11"),
+    ("1 < 2 + 3 < 4;", "<1 < {2 + 3}> @5"),
+    (
+        "1 * 2 + 3 * 4 . 5 << 6;",
+        "{{{1 * 2} + {3 * 4} . 5} << 6} @11",
+    ),
+    (
+        "1 and 2 ?? 3 + 4 xor 5;",
+        "{{1 and <2 ?? {3 + 4}>} xor 5} @9",
+    ),
+    (
+        "1 + 2 instanceof A * 3 - 4;",
+        "{1 + {<2 instanceof A> * 3} - 4} @9",
+    ),
+    ("1 - 2 *", "Syntax(4, 1)"),
+    ("1 or 2 * 3 + );", "Syntax(6, 1)"),
+    ("1 or 2 ? 3 + 4;", "Syntax(7, 1)"),
+    ("1 or 2 ? 3 : 4 * ;", "Syntax(8, 1)"),
+];
+
 #[test]
 fn operators_of_one_power_group_to_the_left_as_one_node(rt: HostRuntime) -> Result<(), Fail> {
     check(&rt, rt.alloc(), 0, RUNS)
@@ -164,4 +196,9 @@ fn other_operators_group_to_the_right_or_not_at_all(rt: HostRuntime) -> Result<(
 #[test]
 fn a_higher_power_binds_tighter(rt: HostRuntime) -> Result<(), Fail> {
     check(&rt, rt.alloc(), 0, NEIGHBOURS)
+}
+
+#[test]
+fn an_operator_of_less_power_completes_those_that_wait(rt: HostRuntime) -> Result<(), Fail> {
+    check(&rt, rt.alloc(), 0, WAITING)
 }
