@@ -1,18 +1,16 @@
 -- Behind a token that opens a form which a shorter one may be, or a form that may be over.
-use Rattle.std.proofs.Common.{◌≡◌, ◌≢◌, ◌≤◌, ◌<◌, ℕ, suc, ◌+◌, Bool, true, false, Option, Some, None, List, [], ◌∷◌, refl, sym, ◌∙◌, ap, arith}
+use Rattle.std.proofs.Common.{◌≡◌, ◌≢◌, ℕ, ◌+◌, Bool, true, false, Some, None, List, [], ◌∷◌, refl, sym, ◌∙◌, ap}
 use Rattle.std.specs.Prelude.{nat_lt}
 use Rattle.php_ast.specs.declared.operator.Assign.TheVariants as setting
-use Rattle.php_ast.specs.declared.operator.ArrayForm.{ArrayForm}
-use Rattle.php_ast.specs.declared.operator.ArrayForm.TheVariants as array_form
 use Rattle.php_ast.specs.Symbol.{Symbol}
-use Rattle.php_ast.specs.Tree.{Items, none, and, skip, plain, keyed, keyed_reference, reference, spread, Class, class_name, class_static, class_found, exiting, exit, exit_empty, append, new, static_instance, by_value, by_reference, thin, colons, yield_nothing, array, isset}
+use Rattle.php_ast.specs.Tree.{Items, skip, plain, keyed, keyed_reference, reference, spread, Class, class_name, class_static, class_found, exiting, exit, exit_empty, append, new, static_instance, by_value, by_reference, thin, colons, yield_nothing}
 use Rattle.php_ast.specs.Sign as sign
 use Rattle.php_ast.specs.Sign.{Beginning, begins_nothing, beginning, Continuation, draws, closes, neither, continuation, strength_of, ends_yield, applies, subscripts, selects, Mark, refers, spreads, ends_item, begins, item_mark, is_ampersand, is_paren, is_right_paren, is_right_bracket, is_colon}
-use Rattle.php_ast.specs.Machine.{Form, Holder, of_call, of_new, of_list, is_array, is_arguments, has_paren, may_end, enclosed_open, items_open, index_open, then_open, assign_open, short_open, yield_open, instance_open, OpenForms, State, expects, holds, past_items, past_value, past_exit, past_exit_paren, past_index, past_question, past_assign, past_class, past_static, past_yield, past_static_colons, goes_on, start, started, item_step, ended_by, class_step, static_step, allowed_if, pick, advance, halt, halt_yield, halt_whole, is_last, missing_end, completed_all, closed_with, ended_items, after}
-use Rattle.php_ast.specs.Depth.{depth, depth_at, depth_behind, static_depth}
+use Rattle.php_ast.specs.Machine.{Form, Holder, is_array, is_arguments, has_paren, may_end, enclosed_open, items_open, index_open, then_open, assign_open, short_open, yield_open, instance_open, OpenForms, State, expects, holds, past_items, past_value, past_exit, past_exit_paren, past_index, past_question, past_assign, past_class, past_static, past_yield, goes_on, start, item_step, ended_by, class_step, static_step, allowed_if, pick, advance, halt, halt_yield, halt_whole, is_last, missing_end, completed_all, closed_with, ended_items, after}
+use Rattle.php_ast.specs.Depth.{depth, depth_at, depth_behind}
 use Rattle.php_ast.specs.Laws.{head_continuation}
 use Rattle.php_ast.proofs.Signs.{closer_symbol, MarkSays, item_says}
-use Rattle.php_parse_body.specs.Walk.{outcome_of, outcome, stepped, walk, Leads, Halts, head_strength}
+use Rattle.php_parse_body.specs.Walk.{outcome_of, outcome, stepped, walk, Leads}
 use Rattle.php_parse_body.specs.Seen.{test, head_mark}
 use Rattle.php_parse_body.specs.ListAnswer.{is_found}
 

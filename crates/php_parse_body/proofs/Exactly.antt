@@ -1,16 +1,14 @@
 -- From what the parser does among all open forms to what its answers say of the tokens.
-use Rattle.std.proofs.Common.{◌≡◌, ◌≤◌, ◌<◌, true, false, ℕ, suc, ◌+◌, ◌-◌, List, [], ◌∷◌, ◌++◌, map, take, drop, length, refl, sym, ◌∙◌, ap, subst, arith, min, append_assoc}
+use Rattle.std.proofs.Common.{◌≡◌, ◌≤◌, ◌<◌, true, false, ℕ, suc, ◌+◌, ◌-◌, List, [], ◌∷◌, ◌++◌, map, take, drop, length, refl, sym, ◌∙◌, ap, subst, arith, append_assoc}
 use Rattle.std.proofs.lemmas.List.{take-append-drop, drop-drop, length-map, length-take, length-drop, map-append}
 use Rattle.php_lex.specs.Token.{Token}
-use Rattle.php_ast.specs.declared.expression.Expr.{Expr}
 use Rattle.php_ast.specs.Symbol.{Symbol, symbol}
 use Rattle.php_ast.specs.Tree.{Tree}
 use Rattle.php_ast.specs.Proper.{ends_bare}
 use Rattle.php_ast.specs.View.{Note, view}
 use Rattle.php_ast.specs.Placed.{noted, no_notes, notes_of, form_of}
-use Rattle.php_ast.specs.Sign.{ends_yield}
-use Rattle.php_ast.specs.Machine.{Form, expects, holds}
-use Rattle.php_ast.specs.Laws.{Spells, BeginsExpression, IsSpelled, head_continuation}
+use Rattle.php_ast.specs.Machine.{Form, expects}
+use Rattle.php_ast.specs.Laws.{Spells, BeginsExpression, IsSpelled}
 use Rattle.php_ast.proofs.Notes.{again}
 use Rattle.php_ast.proofs.LawProofs.{one_tree}
 use Rattle.php_parse_body.specs.declared.fail.Stop.{Stop}

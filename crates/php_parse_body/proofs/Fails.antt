@@ -1,12 +1,12 @@
 -- Failures further on.
-use Rattle.std.proofs.Common.{◌≡◌, ◌≤◌, ◌⊎◌, inl, inr, ℕ, ◌+◌, ◌-◌, Bool, List, ◌∷◌, arith, Result, Ok, Err}
+use Rattle.std.proofs.Common.{◌≡◌, ◌≤◌, ◌⊎◌, inl, ℕ, ◌+◌, ◌-◌, List, ◌∷◌, arith}
 use Rattle.php_lex.specs.Token.{Token}
 use Rattle.php_ast.specs.Symbol.{Symbol}
 use Rattle.php_ast.specs.Machine.{OpenForm, OpenForms, State, expects, least_power_at}
 use Rattle.php_ast.specs.Depth.{deepened}
 use Rattle.php_parse_body.specs.declared.fail.Stop.{Stop}
 use Rattle.php_parse_body.specs.declared.fail.Stop.TheVariants.{Syntax, TooDeep, NoMemory}
-use Rattle.php_parse_body.specs.Walk.{Leads, Halts}
+use Rattle.php_parse_body.specs.Walk.{Leads}
 use Rattle.php_parse_body.specs.Answer.{Fails}
 use Rattle.php_parse_body.proofs.Moves.{leads_halts, inside_halts, weaken_halts}
 

@@ -1,5 +1,5 @@
 -- Flat trees from their parts.
-use Rattle.std.proofs.Common.{◌≡◌, ℕ, Bool, true, false, not, ◌&&◌, nat_eq, List, [], ◌∷◌, ◌++◌, map, refl, sym, ◌∙◌, ap}
+use Rattle.std.proofs.Common.{◌≡◌, Bool, true, false, not, ◌&&◌, nat_eq, List, [], ◌∷◌, ◌++◌, map, refl, sym, ◌∙◌, ap}
 use Rattle.std.specs.List.{list_all}
 use Rattle.std.proofs.lemmas.Bool.{eq-eqb, eqb-true}
 use Rattle.php_ast.specs.declared.spot.Name as rust_name
@@ -20,9 +20,8 @@ use Rattle.php_ast.specs.declared.expression.Named.TheVariants as arrow
 use Rattle.php_ast.specs.declared.expression.Member as behind_colons
 use Rattle.php_ast.specs.declared.expression.Link.{Link}
 use Rattle.php_ast.specs.declared.expression.Link.TheVariants as link
-use Rattle.php_ast.specs.Power.{Row}
 use Rattle.php_ast.specs.PrintParts.{item_with, argument_with, named_with, suffix_with, link_with}
-use Rattle.php_parse_body.specs.Flat.{Top, chain, Shape, shape, shape_step, unchained, suffix_flat, item_flat, link_row, link_flat, has_power, is_some, chain_shape, run_shape, is_flat, is_flat_leaf, is_run, is_run_top, are_flat_items, are_flat_suffixes, is_flat_link, is_flat_run, starts_run}
+use Rattle.php_parse_body.specs.Flat.{Top, chain, Shape, shape, shape_step, unchained, item_flat, link_row, link_flat, has_power, is_some, chain_shape, run_shape, is_flat, is_flat_leaf, is_run_top, are_flat_items, are_flat_suffixes, is_flat_link, is_flat_run, starts_run}
 
 -- ---- tests
 

@@ -1,9 +1,8 @@
 -- What the first symbol behind an expression draws.
-use Rattle.std.proofs.Common.{◌≡◌, ◌≢◌, ◌≤◌, ◌<◌, ◌⊎◌, inl, inr, ℕ, List, [], ◌∷◌, refl, sym, ◌∙◌, ap, subst, arith}
+use Rattle.std.proofs.Common.{◌≡◌, ◌≢◌, ◌≤◌, ◌<◌, ◌⊎◌, inl, inr, ℕ, List, refl, sym, ◌∙◌, ap, arith}
 use Rattle.php_lex.specs.Token.{Token}
 use Rattle.php_ast.specs.declared.operator.Assign.{Assign}
 use Rattle.php_ast.specs.declared.operator.Count.{Count}
-use Rattle.php_ast.specs.declared.operator.Binary.{Binary}
 use Rattle.php_ast.specs.Sign.{Continuation, draws, closes, neither, continuation, strength_of, draw_strength}
 use Rattle.php_ast.specs.Laws.{head_continuation}
 use Rattle.php_ast.proofs.Fill.{binary_bound}

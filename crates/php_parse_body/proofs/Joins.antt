@@ -1,5 +1,5 @@
 -- Operators, and what stands before them.
-use Rattle.std.proofs.Common.{◌≡◌, ◌≢◌, ◌≤◌, ◌<◌, ◌⊎◌, inl, inr, ℕ, suc, ◌+◌, ◌-◌, min, Bool, true, false, Option, Some, None, List, [], ◌∷◌, refl, sym, ◌∙◌, ap, subst, arith, ltb-true, ltb-false}
+use Rattle.std.proofs.Common.{◌≡◌, ◌≢◌, ◌≤◌, ◌<◌, ◌⊎◌, inl, inr, ℕ, ◌+◌, ◌-◌, Bool, true, false, Some, None, List, [], ◌∷◌, refl, ◌∙◌, ap, subst, arith, ltb-true, ltb-false}
 use Rattle.std.specs.Prelude.{nat_lt}
 use Rattle.std.proofs.lemmas.Bool.{lt-ltb}
 use Rattle.php_ast.specs.declared.operator.Assign.{Assign}
@@ -7,7 +7,6 @@ use Rattle.php_ast.specs.declared.operator.Assign.TheVariants as setting
 use Rattle.php_ast.specs.declared.operator.Binary.{Binary}
 use Rattle.php_ast.specs.declared.operator.Binary.TheVariants as binary_op
 use Rattle.php_ast.specs.declared.operator.Prefix.{Prefix}
-use Rattle.php_ast.specs.declared.operator.Prefix.TheVariants as prefix_op
 use Rattle.php_ast.specs.declared.operator.Count.{Count}
 use Rattle.php_ast.specs.Symbol.{Symbol}
 use Rattle.php_lex.specs.Token.{Token}
@@ -16,21 +15,20 @@ use Rattle.php_ast.specs.View.{Note}
 use Rattle.php_ast.specs.Placed.{size, setting_size, noted, notes_of}
 use Rattle.php_parse_body.specs.declared.fail.Stop.{Stop}
 use Rattle.php_parse_body.specs.declared.fail.Stop.TheVariants.{Syntax, TooDeep, NoMemory}
-use Rattle.php_parse_body.specs.declared.reader.Read.{Read}
 use Rattle.php_parse_body.specs.Answer.{Spans, Fails}
 use Rattle.php_ast.specs.Nesting.{right_depth}
-use Rattle.php_ast.specs.Power.{Grouping, to_left, to_right, ungrouped, binary_row, choice_row, assign_row, prefix_power}
-use Rattle.php_ast.specs.Proper.{ends, edge, right, is_call}
+use Rattle.php_ast.specs.Power.{binary_row}
+use Rattle.php_ast.specs.Proper.{ends, right, is_call}
 use Rattle.php_ast.specs.Tree.{prefix, counted, binary, instance, static_instance, choice, short_choice, assign, by_value, by_reference, yield_nothing, yield_value, yield_pair, colons}
 use Rattle.php_ast.specs.Sign as sign
 use Rattle.php_ast.specs.Sign.{Beginning, begins_nothing, is_static, is_yield, prefixes, beginning, Draw, joins, checks, chooses, sets, counts, draw_strength, Continuation, closes, draws, neither, continuation, strength_of, is_arrow, ends_yield, selects, is_ampersand, is_colon}
-use Rattle.php_ast.specs.Machine.{Form, OpenForm, prefix_open, binary_open, assign_open, else_open, short_open, then_open, instance_open, yield_open, yield_value_open, OpenForms, State, expects, holds, past_assign, past_question, past_yield, past_static, operand_level, least_power_at, least_power, ends_at, completed, pick, allowed_if, started, start, assigning, opened_by, after, after_by, closed, goes_on}
+use Rattle.php_ast.specs.Machine.{Form, OpenForm, prefix_open, binary_open, assign_open, else_open, short_open, then_open, instance_open, yield_open, yield_value_open, OpenForms, State, expects, holds, past_assign, past_question, past_yield, past_static, operand_level, least_power_at, least_power, ends_at, completed, pick, allowed_if, started, start, after, after_by, closed, goes_on}
 use Rattle.php_ast.specs.Depth.{deepened, depth, depth_behind}
 use Rattle.php_ast.specs.Laws.{head_continuation}
-use Rattle.php_ast.proofs.Fill.{prefix_bound, binary_bound}
+use Rattle.php_ast.proofs.Fill.{binary_bound}
 use Rattle.php_parse_body.specs.Walk.{Leads, Halts, Rests, head_strength, walk, short}
 use Rattle.php_parse_body.specs.Seen.{test, head_beginning, NoOperand}
-use Rattle.php_parse_body.proofs.Moves.{leads, leads_halts, move, sticks, inside, inside_halts, finish, finish_instance, completed_ends, draw, settle, weaken, weaken_halts, call_halts, close, unclosed_halts}
+use Rattle.php_parse_body.proofs.Moves.{leads, leads_halts, move, sticks, inside, finish, finish_instance, completed_ends, draw, call_halts, close, unclosed_halts}
 use Rattle.php_parse_body.proofs.Enters.{assign_enters, question_enters, yield_enters, yield_alone, static_ends}
 
 -- ---- an operator form

@@ -1,10 +1,5 @@
 -- Lists: items and what stands between them.
-use Rattle.std.proofs.Common.{◌≡◌, ◌≢◌, ◌≤◌, ◌<◌, ◌⊎◌, inl, inr, ℕ, suc, ◌+◌, ◌-◌, Bool, true, false, Option, Some, None, List, [], ◌∷◌, ◌++◌, map, refl, sym, ◌∙◌, ap, subst, arith}
-use Rattle.php_lex.specs.Token.{Token}
-use Rattle.php_ast.specs.declared.expression.Expr.{Expr}
-use Rattle.php_ast.specs.declared.expression.Argument.{Argument}
-use Rattle.php_ast.specs.declared.expression.Item.{Item}
-use Rattle.php_ast.specs.declared.expression.Item.TheVariants as item
+use Rattle.std.proofs.Common.{◌≡◌, ◌≢◌, ◌≤◌, inl, ℕ, ◌-◌, Bool, true, false, Some, None, List, [], ◌∷◌, refl, sym, ◌∙◌, ap, arith}
 use Rattle.php_ast.specs.declared.operator.Binary.{Binary}
 use Rattle.php_ast.specs.declared.operator.Binary.TheVariants as binary
 use Rattle.php_lex.specs.declared.kind.Punct.{Punct}
@@ -14,26 +9,16 @@ use Rattle.php_ast.specs.Symbol.{Symbol, punct}
 use Rattle.php_lex.specs.declared.kind.Punct.TheVariants as mark
 use Rattle.php_ast.specs.Proper.{ends, is_none}
 use Rattle.php_ast.specs.Tree.{Listing}
-use Rattle.php_ast.specs.Tree.{Tree, Items, none, and, skip, Lead, plain, reference, spread, keyed, keyed_reference, listed, array, isset}
-use Rattle.php_ast.specs.View.{Note, view, item_more, items_from, argument_more, arguments_from, values_from}
-use Rattle.php_ast.specs.Placed.{size, size_items, size_lead, comma_size, list_opening_size, noted, noted_items, noted_lead, notes_of}
+use Rattle.php_ast.specs.Tree.{Items, none, and, skip, Lead, plain, reference, spread, keyed, keyed_reference, listed, array, isset}
 use Rattle.php_ast.specs.Sign as sign
 use Rattle.php_ast.specs.Sign.{Mark, refers, spreads, ends_item, begins, item_mark, mark_of, Continuation, closes, draws, neither, continuation, is_ampersand, is_paren, lists, beginning}
-use Rattle.php_ast.specs.Machine.{Nothing, Form, Holder, of_call, of_new, of_list, is_array, is_arguments, has_paren, may_end, is_plain, OpenForm, items_open, OpenForms, State, expects, holds, past_items, past_value, due_listed, closed, keys, closed_with, ended_items, after, item_step, ended_by, allowed_if, pick, start, started}
+use Rattle.php_ast.specs.Machine.{Nothing, Form, Holder, of_call, of_new, of_list, is_array, is_arguments, has_paren, may_end, is_plain, items_open, OpenForms, State, expects, holds, past_items, past_value, due_listed, closed, keys, closed_with, ended_items, after, item_step, allowed_if, pick, start, started}
 use Rattle.php_ast.specs.Laws.{head_continuation}
 use Rattle.php_parse_body.specs.Walk.{Leads, Halts, Rests, walk, short}
 use Rattle.php_parse_body.specs.Seen.{test, head_mark}
-use Rattle.php_parse_body.specs.Parts.{item_parts, argument_parts}
-use Rattle.php_parse_body.specs.Answer.{Spans}
-use Rattle.php_parse_body.specs.ListAnswer.{AnswersKeyed, AnswersItem, SpansItems, closer_in, no_items}
-use Rattle.std.proofs.Common.{Result, Ok, Err}
-use Rattle.php_parse_body.specs.declared.fail.Stop.{Stop}
-use Rattle.php_parse_body.specs.declared.reader.Entry.{Entry}
-use Rattle.php_parse_body.specs.Seen.{rest}
-use Rattle.php_parse_body.proofs.Fails.{later}
-use Rattle.php_parse_body.proofs.Views.{argument_push, item_push, value_push}
+use Rattle.php_parse_body.specs.ListAnswer.{closer_in}
 use Rattle.php_parse_body.proofs.Moves.{leads, leads_halts, move, sink, sticks, inside, close, unclosed_halts}
-use Rattle.php_parse_body.proofs.Enters.{NoMark, items_enter, value_enters}
+use Rattle.php_parse_body.proofs.Enters.{items_enter}
 
 -- ---- what holds a list
 

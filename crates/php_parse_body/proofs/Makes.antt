@@ -1,5 +1,5 @@
 -- `new` with its class, and texts with parts.
-use Rattle.std.proofs.Common.{◌≡◌, ◌≢◌, ◌≤◌, ◌<◌, ◌⊎◌, inl, inr, ℕ, suc, ◌+◌, ◌-◌, Bool, true, false, Option, Some, None, List, [], ◌∷◌, ◌++◌, map, refl, sym, ◌∙◌, ap, arith}
+use Rattle.std.proofs.Common.{◌≡◌, ◌≢◌, ◌≤◌, ℕ, ◌+◌, ◌-◌, false, Option, Some, None, List, [], ◌∷◌, ◌++◌, map, refl, ◌∙◌, ap, arith}
 use Rattle.php_lex.specs.Token.{Token, token_at}
 use Rattle.php_lex.specs.declared.kind.Keyword.{Keyword}
 use Rattle.php_lex.specs.declared.kind.Keyword.TheVariants as word
@@ -10,9 +10,9 @@ use Rattle.php_ast.specs.declared.expression.ClassStep.{ClassStep}
 use Rattle.php_ast.specs.Symbol as sort
 use Rattle.php_ast.specs.Symbol.{Symbol}
 use Rattle.php_ast.specs.Proper.{ends}
-use Rattle.php_ast.specs.Tree.{Tree, Items, none, Member, Class, class_name, class_static, class_found, Steps, from, step_property, step_index, new, new_with, Pieces, no_piece, bytes, value, template, thin}
+use Rattle.php_ast.specs.Tree.{Tree, Items, none, Member, Class, class_name, class_found, Steps, from, step_property, step_index, new, new_with, Pieces, no_piece, bytes, value, template, thin}
 use Rattle.php_ast.specs.View.{Note, step_more, steps_from, piece_more, pieces_from}
-use Rattle.php_ast.specs.Placed.{size, size_class, size_steps, size_items, size_pieces, noted, noted_class, noted_steps, noted_member, noted_items, noted_pieces, notes_of}
+use Rattle.php_ast.specs.Placed.{size_class, size_steps, size_pieces, noted, noted_class, noted_steps, noted_member, noted_items, noted_pieces, notes_of}
 use Rattle.php_ast.specs.Sign as sign
 use Rattle.php_ast.specs.Sign.{beginning, is_new, is_quote, closes, continuation, draws, selects, word_of}
 use Rattle.php_ast.specs.Machine.{Nothing, Form, of_new, step_open, part_open, OpenForms, State, expects, holds, past_new, past_class, past_step, past_items, past_template, closed, class_step, new_step, template_step, with_member, started}

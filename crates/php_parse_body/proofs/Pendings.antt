@@ -1,5 +1,5 @@
 -- Operators that wait for their right sides.
-use Rattle.std.proofs.Common.{◌≡◌, ◌≤◌, ◌<◌, ℕ, suc, ◌+◌, ◌-◌, min, Bool, true, Result, Ok, Err, List, [], ◌∷◌, ◌++◌, length, refl, sym, ◌∙◌, ap, subst, arith, inr}
+use Rattle.std.proofs.Common.{◌≡◌, ◌≤◌, ◌<◌, ℕ, suc, min, true, Result, Ok, Err, List, [], ◌∷◌, ◌++◌, length, refl, sym, ◌∙◌, ap, subst, arith, inr}
 use Rattle.php_lex.specs.Token.{Token}
 use Rattle.php_ast.specs.Symbol.{Symbol}
 use Rattle.php_ast.specs.Proper.{edge, ends, right}
@@ -18,7 +18,7 @@ use Rattle.php_parse_body.specs.BetweenView.{row_between}
 use Rattle.php_parse_body.specs.Seen.{rest}
 use Rattle.php_parse_body.specs.Walk.{Leads, Rests}
 use Rattle.php_parse_body.specs.Answer.{Fails, Found}
-use Rattle.php_parse_body.specs.Climb.{Completes, Waits, LeadsOn, Inside, Pends}
+use Rattle.php_parse_body.specs.Climb.{Completes, Waits, LeadsOn, Pends}
 use Rattle.php_parse_body.proofs.Moves.{leads, weaken}
 use Rattle.php_parse_body.proofs.Joins.{operator_reads, operator_rests, right_bounds}
 use Rattle.php_parse_body.proofs.Fails.{later, within}

@@ -1,5 +1,5 @@
 -- Suffixes.
-use Rattle.std.proofs.Common.{◌≡◌, ◌≢◌, ◌≤◌, ◌<◌, ℕ, suc, ◌+◌, ◌-◌, Bool, true, false, Option, Some, None, List, [], ◌∷◌, ◌++◌, map, refl, sym, ◌∙◌, ap, arith}
+use Rattle.std.proofs.Common.{◌≡◌, ◌≢◌, ◌≤◌, ◌<◌, ℕ, ◌+◌, ◌-◌, true, false, Some, None, List, [], ◌∷◌, ◌++◌, map, refl, sym, ◌∙◌, ap, arith}
 use Rattle.php_lex.specs.Token.{Token}
 use Rattle.php_ast.specs.Symbol.{Symbol}
 use Rattle.php_ast.specs.Proper.{ends}
@@ -15,7 +15,7 @@ use Rattle.php_parse_body.proofs.Views.{suffix_push}
 use Rattle.php_ast.specs.Placed.{size, noted, noted_member, notes_of}
 use Rattle.php_ast.specs.Sign as sign
 use Rattle.php_ast.specs.Sign.{closes, continuation, draws, selects, subscripts, is_left_brace, is_right_bracket, member_of}
-use Rattle.php_ast.specs.Machine.{Nothing, Form, OpenForm, index_open, computed_open, OpenForms, State, expects, holds, past_index, past_arrow, after, closed, with_member, arrow_step, pick, start}
+use Rattle.php_ast.specs.Machine.{Nothing, Form, index_open, computed_open, OpenForms, expects, holds, past_index, past_arrow, after, closed, with_member, pick, start}
 use Rattle.php_ast.specs.Laws.{head_continuation}
 use Rattle.php_parse_body.specs.Walk.{Leads, Halts, Rests, walk, short}
 use Rattle.php_parse_body.specs.Seen.{test, head_member}

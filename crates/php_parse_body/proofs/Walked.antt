@@ -1,8 +1,8 @@
 -- From walks to readings and the nesting that they count.
-use Rattle.std.proofs.Common.{◌≡◌, ◌≢◌, ◌≤◌, ◌<◌, ◌⊎◌, inl, inr, ℕ, suc, ◌+◌, Bool, true, false, Option, Some, None, List, [], ◌∷◌, ◌++◌, length, refl, sym, ◌∙◌, ap, subst, arith, ltb-true, ltb-false}
+use Rattle.std.proofs.Common.{◌≡◌, ◌≢◌, ◌≤◌, ◌<◌, ◌⊎◌, inl, inr, ℕ, suc, Bool, true, false, Option, Some, None, List, [], ◌∷◌, ◌++◌, length, refl, ◌∙◌, ap, ltb-true, ltb-false}
 use Rattle.std.specs.Prelude.{nat_lt}
 use Rattle.php_ast.specs.Symbol.{Symbol}
-use Rattle.php_ast.specs.Machine.{Form, OpenForms, State, expects, holds, holds_call, due_enclosed, due_listed, past_items, past_value, past_exit, past_exit_paren, past_static, past_static_colons, past_template, past_index, past_arrow, past_new, past_class, past_step, past_question, past_assign, past_yield, instance_open, advance, halt, halt_yield, is_last, missing_end, or_halt, read_from, Reading}
+use Rattle.php_ast.specs.Machine.{Form, OpenForms, State, past_static, past_yield, instance_open, advance, halt, halt_yield, is_last, missing_end, or_halt, read_from, Reading}
 use Rattle.php_ast.specs.Depth.{depth_at, depths_read, noting}
 use Rattle.php_parse_body.specs.Walk.{Outcome, whole, short, deep, outcome_of, outcome, stepped, walk}
 

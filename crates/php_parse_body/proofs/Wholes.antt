@@ -1,28 +1,26 @@
 -- What whole walks say of the tokens read.
-use Rattle.std.proofs.Common.{◌≡◌, ◌≢◌, ◌≤◌, ◌<◌, ◌⊎◌, inl, inr, ℕ, suc, ◌+◌, ◌-◌, Bool, true, false, Option, Some, None, List, [], ◌∷◌, ◌++◌, map, take, drop, length, get_or, refl, sym, ◌∙◌, ap, subst, arith, append_assoc}
+use Rattle.std.proofs.Common.{◌≡◌, ◌≢◌, ◌≤◌, ◌<◌, ◌⊎◌, inl, inr, ℕ, ◌+◌, Bool, true, false, Some, None, List, [], ◌∷◌, ◌++◌, take, length, get_or, refl, sym, ◌∙◌, ap, subst, arith, append_assoc}
 use Rattle.std.proofs.lemmas.List.{append-nil}
-use Rattle.std.specs.Prelude.{nat_lt}
 use Rattle.std.proofs.lemmas.Bool.{le-ltb}
 use Rattle.std.proofs.lemmas.List.{length-append}
 use Rattle.std.proofs.Math.Seq.{take-append_seam}
-use Rattle.php_lex.specs.Token.{Token}
 use Rattle.php_lex.specs.declared.kind.Punct.TheVariants as mark
-use Rattle.php_ast.specs.Symbol.{Symbol, symbol, punct}
-use Rattle.php_ast.specs.Tree.{Tree, Class, class_name, class_static, class_found, new, exit, static_instance, yield_nothing, thin, colons}
+use Rattle.php_ast.specs.Symbol.{Symbol, punct}
+use Rattle.php_ast.specs.Tree.{Class, class_name, class_static, class_found, new, exit, static_instance, yield_nothing, thin, colons}
 use Rattle.php_ast.specs.Spelling.{spell}
 use Rattle.php_ast.specs.Proper.{Proper, ends, ends_bare}
 use Rattle.php_ast.specs.Nesting.{nests}
 use Rattle.php_ast.specs.Sign as sign
 use Rattle.php_ast.specs.Sign.{Draw, draw_strength, Continuation, draws, closes, neither, continuation, strength_of, is_arrow, ends_yield}
-use Rattle.php_ast.specs.Machine.{Nothing, Form, OpenForm, enclosed_open, items_open, yield_open, instance_open, OpenForms, State, expects, holds, past_exit, past_static, past_class, past_yield, past_arrow, class_step, closed, advance, halt, Reading, read, read_from, or_halt, goes_on, continued, released, opened_by, allowed_if, closes_in}
+use Rattle.php_ast.specs.Machine.{Nothing, Form, OpenForm, enclosed_open, items_open, yield_open, instance_open, OpenForms, State, expects, holds, past_exit, past_static, past_class, past_yield, past_arrow, class_step, closed, advance, halt, Reading, read, read_from, or_halt, goes_on, released, opened_by, allowed_if, closes_in}
 use Rattle.php_ast.specs.Depth.{depth_at, depths_read, noting}
 use Rattle.php_ast.specs.Laws.{Spells, BeginsExpression, EndsBefore, head_continuation}
 use Rattle.php_ast.proofs.Appended.{spell_append}
 use Rattle.php_ast.proofs.LawProofs.{reading_begins, reads_back, unfinished, stops_exactly, nesting_agrees}
-use Rattle.php_parse_body.specs.Walk.{whole, short, deep, outcome_of, outcome, walk, Rests, head_strength}
+use Rattle.php_parse_body.specs.Walk.{whole, short, deep, outcome_of, outcome, walk, Rests}
 use Rattle.php_parse_body.proofs.Depths.{AllWithin, SinksAt}
 use Rattle.php_parse_body.proofs.Moves.{sticks, draws_some}
-use Rattle.php_parse_body.proofs.Walked.{Walks, Reads, EndsIn, AllAtMost, walks, halt_unread, outcome_whole, outcome_short}
+use Rattle.php_parse_body.proofs.Walked.{Reads, EndsIn, AllAtMost, walks, halt_unread, outcome_whole, outcome_short}
 
 -- ---- an expression that is over
 

@@ -1,52 +1,33 @@
 -- What the functions of the parser answer that read lists, classes and texts with parts.
-use Rattle.std.specs.Prelude.{◌≡◌, ◌≢◌, ◌≤◌, ◌<◌, ℕ, suc, ◌+◌, ◌-◌, ◌*◌, Bool, true, false, Option, Some, None, Result, Ok, Err, List, [], ◌∷◌, map, length}
-use Rattle.std.specs.declared.alloc.Global.{Global}
-use denote.Ref.{Bor}
-use Rattle.php_lex.specs.Token.{Token, token_at}
+use Rattle.std.specs.Prelude.{◌≡◌, ◌≢◌, ◌≤◌, ◌<◌, ℕ, ◌+◌, Bool, true, false, Option, Some, None, Result, Ok, Err, List, [], ◌∷◌, map, length}
+use Rattle.php_lex.specs.Token.{Token}
 use Rattle.php_ast.specs.declared.expression.Expr.{Expr}
 use Rattle.php_ast.specs.declared.expression.Argument.{Argument}
 use Rattle.php_ast.specs.declared.expression.Item.{Item}
 use Rattle.php_ast.specs.declared.expression.Class.{Class}
-use Rattle.php_ast.specs.declared.expression.Suffix.{Suffix}
 use Rattle.php_ast.specs.declared.operator.ArrayForm.{ArrayForm}
 use Rattle.php_ast.specs.declared.operator.ArrayForm.TheVariants as array_form
-use Rattle.php_ast.specs.Symbol.{Symbol}
 use Rattle.php_ast.specs.Tree as tree
 use Rattle.php_ast.specs.Tree.{Tree, array, isset}
-use Rattle.php_ast.specs.Proper.{ends, ends_bare, right, is_call, is_none}
+use Rattle.php_ast.specs.Proper.{ends, is_none}
 use Rattle.php_ast.specs.View as shown
 use Rattle.php_ast.specs.View.{Note, view}
-use Rattle.php_ast.specs.Placed.{size, size_items, size_lead, size_class, size_steps, size_pieces, comma_size, Notes, noted, noted_items, noted_lead, noted_class, noted_steps, noted_pieces, notes_of}
+use Rattle.php_ast.specs.Placed.{size, size_items, size_lead, size_class, size_steps, size_pieces, comma_size, noted, noted_items, noted_lead, noted_class, noted_steps, noted_pieces, notes_of}
 use Rattle.php_ast.specs.Sign as sign
 use Rattle.php_ast.specs.Sign.{closes, continuation, draws, draw_strength, ends_yield}
 use Rattle.php_ast.specs.Laws.{head_continuation}
-use Rattle.php_ast.specs.Machine.{Nothing, Form, Holder, of_list, is_arguments, is_plain, items_open, closed_with, OpenForms, State, expects, holds, past_items, past_value, past_new, past_class, past_template, after, yield_open, then_open}
+use Rattle.php_ast.specs.Machine.{Nothing, Form, Holder, of_list, is_arguments, is_plain, items_open, closed_with, OpenForms, State, holds, past_items, past_value, past_new, past_class, past_template, after}
 use Rattle.php_parse_body.specs.declared.fail.Stop.{Stop}
-use Rattle.php_parse_body.specs.declared.fail.Stop.TheVariants.{Syntax, TooDeep, NoMemory}
-use Rattle.php_parse_body.specs.declared.reader.Read.{Read}
-use Rattle.php_parse_body.specs.declared.reader.Taken.{Taken}
-use Rattle.php_parse_body.specs.declared.reader.Operand.{Operand}
-use Rattle.php_parse_body.specs.declared.reader.Followed.{Followed}
 use Rattle.php_parse_body.specs.declared.reader.Listed.{Listed}
 use Rattle.php_parse_body.specs.declared.reader.Entry.{Entry}
 use Rattle.php_parse_body.specs.Parts as part
-use Rattle.php_parse_body.specs.Flat.{are_flat, is_flat_piece, are_flat_pieces, is_flat_item, are_flat_items, is_flat_argument, are_flat_arguments, are_flat_suffixes, is_flat_step, are_flat_steps, is_flat_class}
-use Rattle.php_parse_body.specs.declared.sign.Tail.{Tail}
-use Rattle.php_parse_body.specs.declared.sign.Opening.{Opening}
-use Rattle.php_parse_body.specs.declared.sign.Opening.TheVariants as opening
+use Rattle.php_parse_body.specs.Flat.{are_flat, is_flat_piece, are_flat_pieces, is_flat_item, are_flat_items, is_flat_argument, are_flat_arguments, is_flat_step, are_flat_steps, is_flat_class}
 use Rattle.php_ast.specs.declared.expression.ClassStep.{ClassStep}
 use Rattle.php_ast.specs.declared.expression.Piece.{Piece}
-use Rattle.php_ast.specs.declared.operator.Binary.{Binary}
-use Rattle.php_ast.specs.Nesting.{right_depth}
-use Rattle.php_ast.specs.Power.{binary_row}
-use Rattle.php_parse_body.specs.SignView.{tail_view, infix_view}
-use Rattle.php_parse_body.specs.declared.prefixes.Change.{Change}
-use Rattle.php_parse_body.specs.declared.prefixes.Change.TheVariants as change
-use Rattle.php_parse_body.specs.declared.sign.Infix.{Infix}
 use Rattle.php_parse_body.specs.declared.classes.StepKind.{StepKind}
 use Rattle.php_parse_body.specs.declared.classes.StepKind.TheVariants as step_kind
 use Rattle.php_parse_body.specs.Seen.{rest, Shows}
-use Rattle.php_parse_body.specs.Walk.{Leads, Halts, Rests}
+use Rattle.php_parse_body.specs.Walk.{Leads, Rests}
 use Rattle.php_parse_body.specs.Answer.{Fails}
 
 -- ---- lists, from behind their opening token

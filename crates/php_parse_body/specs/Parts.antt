@@ -1,5 +1,5 @@
 -- The parts of expressions, seen as parts of trees.
-use Rattle.std.specs.Prelude.{List, map}
+use Rattle.std.specs.Prelude.{map}
 use Rattle.php_ast.specs.declared.expression.Expr.{Expr}
 use Rattle.php_ast.specs.declared.expression.Piece.{Piece}
 use Rattle.php_ast.specs.declared.expression.Piece.TheVariants as piece

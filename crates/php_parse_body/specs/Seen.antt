@@ -1,10 +1,10 @@
 -- What is seen of the tokens from a place on.
-use Rattle.std.specs.Prelude.{◌≡◌, ◌≢◌, ◌<◌, ◌^◌, ℕ, ℤ, ◌+◌, Bool, true, false, ◌⊎◌, Option, Some, None, List, [], ◌∷◌, map, drop, length}
+use Rattle.std.specs.Prelude.{◌≡◌, ◌≢◌, ◌<◌, ◌^◌, ℕ, ℤ, ◌+◌, Bool, true, false, Option, Some, None, List, [], ◌∷◌, map, drop, length}
 use Rattle.php_lex.specs.Token.{Token, token_at}
 use Rattle.php_lex.specs.declared.kind.Keyword.{Keyword}
 use Rattle.php_lex.specs.declared.kind.TokenKind.{TokenKind}
 use Rattle.php_ast.specs.Symbol.{Symbol, symbol, symbol_of}
-use Rattle.php_ast.specs.Sign.{Beginning, begins_nothing, is_yield, prefixes, beginning, Continuation, draws, closes, neither, continuation, Mark, begins, item_mark, word_of, member_of}
+use Rattle.php_ast.specs.Sign.{Beginning, begins_nothing, is_yield, prefixes, beginning, Continuation, neither, continuation, Mark, begins, item_mark, word_of, member_of}
 use Rattle.php_ast.specs.declared.spot.Name.{Name}
 use Rattle.php_ast.specs.declared.spot.Word.{Word}
 use Rattle.php_ast.specs.declared.expression.Member as behind_colons

@@ -1,6 +1,5 @@
 -- From the roles of tokens in the program to those of the grammar.
-use Rattle.std.specs.Prelude.{◌≡◌, ◌≢◌, ℕ, ℤ, Bool, true, false, Option, Some, None, List}
-use Rattle.php_ast.specs.declared.operator.ArrayForm.TheVariants as form
+use Rattle.std.specs.Prelude.{◌≡◌, ◌≢◌, ℕ, Bool, true, false, Option, Some, None, List}
 use Rattle.php_ast.specs.Tree.{Leaf, variable, int, string, name, magic, parentheses, emptiness, array, isset, thin, colons}
 use Rattle.php_ast.specs.Sign as sign
 use Rattle.php_ast.specs.Sign.{Beginning, is_leaf, is_static, is_quote, is_exit, is_new, is_yield, encloses, lists, prefixes, begins_nothing, beginning, Draw, joins, checks, chooses, sets, counts, applies, subscripts, selects, Continuation, draws, closes, neither, Mark}

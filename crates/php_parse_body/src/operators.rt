@@ -17,7 +17,7 @@ ghost use Rattle.php_parse_body.specs.SignView.{infix_view, opening_view};
 use crate::build::{checked, checked_static, joined};
 use crate::fail::Stop;
 use crate::look::{ends_with, opening_at, sees_colon, spot};
-use crate::pending::{Between, Pending, Onward, edge_of, right_of};
+use crate::pending::{Between, Onward, Pending, edge_of, right_of};
 use crate::prefixes::lacks_colons;
 use crate::reader::{Read, Reader, discard, unclosed};
 use crate::sign::{Closer, Infix, Opening};

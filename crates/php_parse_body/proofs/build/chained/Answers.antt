@@ -1,4 +1,3 @@
-use Rattle.std.proofs.Common.{◌≡◌}
 use Rattle.php_parse_body.proofs.Flats.{leaf_flat, chain_flat}
 use Rattle.php_parse_body.proofs.build.chained.Goals as goal
 

@@ -1,6 +1,4 @@
-use Rattle.std.proofs.Common.{◌≡◌, ◌+◌, ◌-◌, ◌∙◌, refl, arith, inl, inr, ap, sym}
-use Rattle.std.proofs.lemmas.Result.{err_from_is_err_and}
-use Rattle.php_parse_body.proofs.Fails.{later, within, between, fewer}
+use Rattle.std.proofs.Common.{refl, arith}
 use Rattle.php_ast.specs.Tree.{step_property}
 use Rattle.php_parse_body.proofs.Makes.{step_reads, step_halts, step_shown}
 use Rattle.php_parse_body.proofs.classes.property_step.Goals as goal

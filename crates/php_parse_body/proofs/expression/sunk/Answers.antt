@@ -1,4 +1,4 @@
-use Rattle.std.proofs.Common.{◌≡◌, refl, arith}
+use Rattle.std.proofs.Common.{arith}
 use Rattle.php_lex.specs.Token.{token_at}
 use Rattle.php_parse_body.specs.SignView.{start_view}
 use Rattle.php_parse_body.proofs.Founds.{sinks_here}

@@ -1,4 +1,4 @@
-use Rattle.std.proofs.Common.{◌≡◌, ◌+◌, ◌∙◌, refl, arith}
+use Rattle.std.proofs.Common.{refl, arith}
 use Rattle.php_ast.specs.Machine.{else_open}
 use Rattle.php_parse_body.proofs.Joins.{else_begins, choice_spans}
 use Rattle.php_parse_body.proofs.operators.half_chosen.Goals as goal

@@ -1,4 +1,4 @@
-use Rattle.std.proofs.Common.{◌≡◌, ◌-◌, refl, arith}
+use Rattle.std.proofs.Common.{◌-◌, arith}
 use Rattle.php_parse_body.proofs.Exactly.{is_read, is_refused}
 use Rattle.php_parse_body.proofs.parse.parse_expr.Goals as goal
 

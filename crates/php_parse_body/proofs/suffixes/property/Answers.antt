@@ -1,4 +1,4 @@
-use Rattle.std.proofs.Common.{◌≡◌, refl, arith, ◌∙◌}
+use Rattle.std.proofs.Common.{refl, arith, ◌∙◌}
 use Rattle.php_ast.specs.Tree.{thin, selected}
 use Rattle.php_ast.specs.Placed.{noted, notes_of}
 use Rattle.php_parse_body.proofs.Trails.{property_reads, property_halts, selected_spans}

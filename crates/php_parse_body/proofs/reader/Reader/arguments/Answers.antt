@@ -1,6 +1,4 @@
-use Rattle.std.proofs.Common.{◌≡◌, ◌+◌, ◌-◌, ◌∙◌, refl, arith, inl, inr, ap, sym, map}
-use Rattle.std.proofs.lemmas.Result.{err_from_is_err_and}
-use Rattle.php_parse_body.proofs.Fails.{later, within, between, fewer}
+use Rattle.std.proofs.Common.{refl, arith, ap, map}
 use Rattle.php_ast.specs.Tree.{none}
 use Rattle.php_ast.specs.View.{arguments_from}
 use Rattle.php_parse_body.specs.Parts.{argument_parts}

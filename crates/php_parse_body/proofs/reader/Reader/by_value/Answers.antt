@@ -1,6 +1,6 @@
-use Rattle.std.proofs.Common.{◌≡◌, ◌+◌, ◌-◌, ◌∙◌, refl, arith, inl, inr, ap, sym}
+use Rattle.std.proofs.Common.{◌+◌, ◌-◌, refl, arith, inr}
 use Rattle.std.proofs.lemmas.Result.{err_from_is_err_and}
-use Rattle.php_parse_body.proofs.Fails.{later, within, between, fewer}
+use Rattle.php_parse_body.proofs.Fails.{within}
 use Rattle.php_ast.specs.Tree.{assign, by_value}
 use Rattle.php_ast.specs.Machine.{assign_open}
 use Rattle.php_parse_body.proofs.Joins.{operator_reads, operator_rests, value_opens, assign_spans}

@@ -1,9 +1,6 @@
-use Rattle.std.proofs.Common.{◌≡◌, ◌+◌, ◌-◌, ◌∙◌, refl, arith, inl, inr, ap, sym}
-use Rattle.std.proofs.lemmas.Result.{err_from_is_err_and}
-use Rattle.php_parse_body.proofs.Fails.{later, within, between, fewer}
+use Rattle.std.proofs.Common.{◌+◌, ◌∙◌, refl, arith, ap, sym}
 use Rattle.php_lex.specs.Token.{token_at}
 use Rattle.php_ast.specs.Tree.{static_instance}
-use Rattle.php_ast.specs.Machine.{instance_open, expects}
 use Rattle.php_parse_body.specs.SignView.{opening_view}
 use Rattle.php_parse_body.proofs.Joins.{instance_opens, static_instance_reads, no_operand, static_instance_spans, instance_rests}
 use Rattle.php_parse_body.proofs.reader.Reader.checked.Goals as goal

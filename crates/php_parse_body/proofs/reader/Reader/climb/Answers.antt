@@ -1,4 +1,4 @@
-use Rattle.std.proofs.Common.{◌≡◌, ◌+◌, ◌-◌, ◌*◌, ◌∙◌, ◌++◌, ◌∷◌, [], length, refl, arith, ap, sym, subst}
+use Rattle.std.proofs.Common.{◌++◌, ◌∷◌, [], arith, sym, subst}
 use Rattle.std.proofs.lemmas.Result.{err_from_is_err_and}
 use Rattle.php_ast.specs.Machine.{expects, holds}
 use Rattle.php_ast.specs.Proper.{right}

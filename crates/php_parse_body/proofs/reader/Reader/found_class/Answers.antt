@@ -1,10 +1,10 @@
-use Rattle.std.proofs.Common.{◌≡◌, ◌+◌, ◌-◌, ◌∙◌, refl, arith, inl, inr, ap, sym}
+use Rattle.std.proofs.Common.{arith, ap}
 use Rattle.std.proofs.lemmas.Result.{err_from_is_err_and}
-use Rattle.php_parse_body.proofs.Fails.{later, within, between, fewer}
+use Rattle.php_parse_body.proofs.Fails.{later}
 use Rattle.php_lex.specs.Token.{token_at}
 use Rattle.php_ast.specs.Placed.{noted_steps, notes_of}
 use Rattle.php_ast.specs.Tree.{class_found, from}
-use Rattle.php_ast.specs.View.{step_more, steps_from, class_view}
+use Rattle.php_ast.specs.View.{steps_from}
 use Rattle.php_ast.specs.Machine.{past_class}
 use Rattle.php_parse_body.proofs.Moves.{leads}
 use Rattle.php_parse_body.proofs.Makes.{class_reads, steps_more, from_shown}

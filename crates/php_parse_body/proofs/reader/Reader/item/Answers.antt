@@ -1,11 +1,10 @@
-use Rattle.std.proofs.Common.{◌∷◌, []}
-use Rattle.std.proofs.Common.{◌≡◌, ◌+◌, ◌-◌, ◌∙◌, refl, arith, inl, inr, ap, sym}
+use Rattle.std.proofs.Common.{◌∷◌}
+use Rattle.std.proofs.Common.{◌+◌, ◌∙◌, refl, arith, ap}
 use Rattle.std.proofs.lemmas.Result.{err_from_is_err_and}
-use Rattle.php_parse_body.proofs.Fails.{later, within, between, fewer}
-use Rattle.php_ast.specs.Tree as tree
-use Rattle.php_ast.specs.Tree.{and, plain, reference, keyed, array}
-use Rattle.php_ast.specs.Placed.{size, noted, notes_of}
-use Rattle.php_ast.specs.Machine.{of_list, holds, items_open, past_value}
+use Rattle.php_parse_body.proofs.Fails.{between}
+use Rattle.php_ast.specs.Tree.{and, plain, reference, array}
+use Rattle.php_ast.specs.Placed.{noted, notes_of}
+use Rattle.php_ast.specs.Machine.{of_list, holds, items_open}
 use Rattle.php_parse_body.proofs.Moves.{leads}
 use Rattle.php_parse_body.proofs.Listings.{reference_opens, reference_halts, item_opens, item_in, key_reads}
 use Rattle.php_parse_body.proofs.ListNotes.{item_keyed}

@@ -1,9 +1,9 @@
-use Rattle.std.proofs.Common.{◌∷◌, []}
-use Rattle.std.proofs.Common.{◌≡◌, ◌+◌, ◌-◌, ◌∙◌, refl, arith, inl, inr, ap, sym}
+use Rattle.std.proofs.Common.{◌∷◌}
+use Rattle.std.proofs.Common.{◌∙◌, refl, arith, ap, sym}
 use Rattle.std.proofs.lemmas.Result.{err_from_is_err_and}
-use Rattle.php_parse_body.proofs.Fails.{later, within, between, fewer}
+use Rattle.php_parse_body.proofs.Fails.{later}
 use Rattle.php_ast.specs.Sign.{closes}
-use Rattle.php_ast.specs.Tree.{none, and, skip, array, listed}
+use Rattle.php_ast.specs.Tree.{none, and, skip, array}
 use Rattle.php_ast.specs.Machine.{holds, past_items, items_open, of_list, ended_items}
 use Rattle.php_parse_body.proofs.Moves.{leads, leads_halts}
 use Rattle.php_parse_body.proofs.Listings.{comma_reads, array_reads, item_unclosed, missing_reads, missing_halts, end_reads, end_halts}

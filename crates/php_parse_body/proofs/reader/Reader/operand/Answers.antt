@@ -1,10 +1,8 @@
-use Rattle.std.proofs.Common.{◌≡◌, ◌+◌, ◌-◌, ◌∙◌, refl, arith, inl, inr, ap, sym}
+use Rattle.std.proofs.Common.{◌∙◌, arith, ap, sym}
 use Rattle.std.proofs.lemmas.Result.{err_from_is_err_and}
-use Rattle.php_parse_body.proofs.Fails.{later, within, between, fewer}
-use Rattle.php_ast.specs.Sign.{draws}
-use Rattle.php_ast.specs.Machine.{after, after_by, holds}
+use Rattle.php_parse_body.proofs.Fails.{later}
+use Rattle.php_ast.specs.Machine.{after, holds}
 use Rattle.php_ast.specs.View.{view}
-use Rattle.php_parse_body.specs.SignView.{tail_view}
 use Rattle.php_parse_body.proofs.Moves.{leads}
 use Rattle.php_parse_body.proofs.Trails.{suffix_more, leaf_after}
 use Rattle.std.proofs.Common.{map, subst}

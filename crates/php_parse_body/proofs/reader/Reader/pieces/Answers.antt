@@ -1,7 +1,7 @@
-use Rattle.std.proofs.Common.{◌≡◌, ◌+◌, ◌-◌, ◌∙◌, refl, arith, inl, inr, ap, sym}
+use Rattle.std.proofs.Common.{refl, arith, ap}
 use Rattle.std.proofs.lemmas.Result.{err_from_is_err_and}
-use Rattle.php_parse_body.proofs.Fails.{later, within, between, fewer}
-use Rattle.php_ast.specs.Tree.{no_piece, bytes, value, template}
+use Rattle.php_parse_body.proofs.Fails.{later}
+use Rattle.php_ast.specs.Tree.{no_piece, bytes, value}
 use Rattle.php_ast.specs.Machine.{past_template}
 use Rattle.php_parse_body.proofs.Moves.{leads, leads_halts}
 use Rattle.php_parse_body.proofs.Makes.{bytes_read, bytes_more, parts_more, template_reads, template_halts}

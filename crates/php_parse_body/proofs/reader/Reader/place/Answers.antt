@@ -1,6 +1,6 @@
-use Rattle.std.proofs.Common.{◌≡◌, ◌+◌, ◌-◌, ◌∙◌, refl, arith, inl, inr, ap, sym}
+use Rattle.std.proofs.Common.{◌∙◌, refl, arith, ap}
 use Rattle.std.proofs.lemmas.Result.{err_from_is_err_and}
-use Rattle.php_parse_body.proofs.Fails.{later, within, between, fewer}
+use Rattle.php_parse_body.proofs.Fails.{fewer}
 use Rattle.php_lex.specs.Token.{token_at}
 use Rattle.php_ast.specs.Sign.{counts}
 use Rattle.php_ast.specs.Tree.{counted}

@@ -1,7 +1,7 @@
-use Rattle.std.proofs.Common.{◌∷◌, []}
-use Rattle.std.proofs.Common.{◌≡◌, ◌+◌, ◌-◌, ◌∙◌, refl, arith, inl, inr, ap, sym}
+use Rattle.std.proofs.Common.{◌∷◌}
+use Rattle.std.proofs.Common.{refl, arith, ap}
 use Rattle.std.proofs.lemmas.Result.{err_from_is_err_and}
-use Rattle.php_parse_body.proofs.Fails.{later, within, between, fewer}
+use Rattle.php_parse_body.proofs.Fails.{later}
 use Rattle.php_ast.specs.Tree.{none, and}
 use Rattle.php_ast.specs.Machine.{holds, past_items, items_open}
 use Rattle.php_parse_body.proofs.Moves.{leads, leads_halts}

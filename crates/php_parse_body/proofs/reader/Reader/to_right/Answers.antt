@@ -1,6 +1,5 @@
-use Rattle.std.proofs.Common.{◌≡◌, ◌+◌, ◌-◌, ◌∙◌, refl, ap, arith, inr}
+use Rattle.std.proofs.Common.{◌+◌, ◌-◌, ◌∙◌, refl, ap, arith, inr}
 use Rattle.std.proofs.lemmas.Result.{err_from_is_err_and}
-use Rattle.php_ast.specs.Power.{binary_row}
 use Rattle.php_ast.specs.Proper.{edge, right}
 use Rattle.php_ast.specs.Tree.{binary}
 use Rattle.php_ast.proofs.Fill.{binary_bound}

@@ -1,9 +1,9 @@
-use Rattle.std.proofs.Common.{◌∷◌, []}
-use Rattle.std.proofs.Common.{◌≡◌, ◌+◌, ◌-◌, ◌∙◌, refl, arith, inl, inr, ap, sym}
+use Rattle.std.proofs.Common.{◌∷◌}
+use Rattle.std.proofs.Common.{refl, arith, ap}
 use Rattle.std.proofs.lemmas.Result.{err_from_is_err_and}
-use Rattle.php_parse_body.proofs.Fails.{later, within, between, fewer}
+use Rattle.php_parse_body.proofs.Fails.{later, between}
 use Rattle.php_ast.specs.Tree.{none, and, plain, isset}
-use Rattle.php_ast.specs.Machine.{holds, past_items, items_open, of_list, after}
+use Rattle.php_ast.specs.Machine.{holds, past_items, items_open, of_list}
 use Rattle.php_parse_body.proofs.Moves.{leads, leads_halts}
 use Rattle.php_parse_body.proofs.Listings.{value_opens, item_in, comma_reads, paren_reads, item_unclosed}
 use Rattle.php_parse_body.proofs.ListNotes.{values_more}

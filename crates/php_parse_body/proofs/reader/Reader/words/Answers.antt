@@ -1,6 +1,6 @@
-use Rattle.std.proofs.Common.{◌≡◌, ◌+◌, ◌-◌, ◌∙◌, refl, arith, inl, inr, ap, sym}
+use Rattle.std.proofs.Common.{◌+◌, refl, arith}
 use Rattle.std.proofs.lemmas.Result.{err_from_is_err_and}
-use Rattle.php_parse_body.proofs.Fails.{later, within, between, fewer}
+use Rattle.php_parse_body.proofs.Fails.{later}
 use Rattle.php_ast.specs.Tree.{none, listed, array}
 use Rattle.php_ast.specs.Machine.{past_items, of_list}
 use Rattle.php_parse_body.proofs.Moves.{leads}

@@ -1,7 +1,7 @@
-use Rattle.std.proofs.Common.{◌∷◌, []}
-use Rattle.std.proofs.Common.{◌≡◌, ◌+◌, ◌-◌, ◌∙◌, refl, arith, inl, inr, ap, sym}
+use Rattle.std.proofs.Common.{◌∷◌}
+use Rattle.std.proofs.Common.{◌+◌, ◌-◌, ◌∙◌, refl, arith, inl, inr, ap, sym}
 use Rattle.std.proofs.lemmas.Result.{err_from_is_err_and}
-use Rattle.php_parse_body.proofs.Fails.{later, within, between, fewer}
+use Rattle.php_parse_body.proofs.Fails.{within}
 use Rattle.php_ast.specs.Tree.{yield_nothing, yield_value}
 use Rattle.php_ast.specs.Machine.{yield_open, expects, holds}
 use Rattle.php_ast.specs.Laws.{head_continuation}
