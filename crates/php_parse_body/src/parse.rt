@@ -40,8 +40,8 @@ fn with_line(tokens: &Tokens, stop: Stop) -> ParseFail
 /// else `Syntax` with the place of the first token that was not read, and its line. A token behind them that
 /// no expression goes on with is left to the caller. A `yield` alone is answered where the token behind it may stand
 /// there, else that token is `Syntax`. The expression is flat. `depth` is how many constructs are open around `at`; the
-/// first token inside more than 128 of them is `TooDeep`. Calls nest as constructs do and, inside each, as operators of
-/// rising power do. `NoMemory` comes for want of memory.
+/// first token inside more than 128 of them is `TooDeep`. Calls nest as constructs do, and no further. `NoMemory` comes
+/// for want of memory.
 pub fn parse_expr(
     alloc: Global,
     tokens: &Tokens,
