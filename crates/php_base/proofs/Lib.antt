@@ -1,3 +1,4 @@
 pub mod Fails
 pub mod Growth
 pub mod Lookup
+pub mod Streams

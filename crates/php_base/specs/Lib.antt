@@ -5,4 +5,5 @@ pub mod MemFiles
 pub mod MemShelf
 pub mod MemSink
 pub mod StdShelf
+pub mod Streams
 pub mod Written
