@@ -4,7 +4,7 @@ use Rattle.std.specs.Cmp.Lexicographic.{same_text, other_text}
 use Rattle.std.proofs.Math.ListN.{get_or-map}
 use Rattle.std.proofs.lemmas.List.{map-set, map-append}
 use Rattle.php_base.specs.declared.mem_shelf.MemFile.{MemFile}
-use Rattle.php_base.specs.MemFiles.{file_told, files_told}
+use Rattle.php_base.specs.MemFiles.{file_view, files_view}
 use Rattle.php_base.specs.Files.{File, file_of, IsFirstOf, PutsFile}
 
 -- a name is itself
@@ -98,48 +98,48 @@ puts-append files new none = record {
 
 -- the bytes of the kept file that was found
 pub file_of-kept : (told : List File) (kept files : List MemFile) (name : List ℕ) (place : ℕ) (file : MemFile) →
-    files_told kept ≡ told → files ≡ kept →
-    IsFirstOf (files_told files) name place → file ≡ get_or kept place file →
+    files_view kept ≡ told → files ≡ kept →
+    IsFirstOf (files_view files) name place → file ≡ get_or kept place file →
     file_of told name ≡ Some file.bytes.items
 file_of-kept told kept files name place file is_told is_kept first is =
-    let P : List MemFile → Type 0 = λ some. IsFirstOf (files_told some) name place in
+    let P : List MemFile → Type 0 = λ some. IsFirstOf (files_view some) name place in
     ap (λ some. file_of some name) (sym is_told)
-    ∙ file_of-first (files_told kept) name place (file_told file) (subst P is_kept first)
-    ∙ ap (λ f. Some f.bytes) (get_or-map file_told kept place file ∙ ap file_told (sym is))
+    ∙ file_of-first (files_view kept) name place (file_view file) (subst P is_kept first)
+    ∙ ap (λ f. Some f.bytes) (get_or-map file_view kept place file ∙ ap file_view (sym is))
 
 -- the kept file that was found, with other bytes
 pub puts-kept : (told : List File) (kept files : List MemFile) (name bytes : List ℕ) (place : ℕ) (file new : MemFile) →
-    files_told kept ≡ told → files ≡ kept →
-    IsFirstOf (files_told files) name place → file ≡ get_or kept place file →
+    files_view kept ≡ told → files ≡ kept →
+    IsFirstOf (files_view files) name place → file ≡ get_or kept place file →
     new.name ≡ file.name → new.bytes.items ≡ bytes →
-    PutsFile told (files_told (set kept place new)) name bytes
+    PutsFile told (files_view (set kept place new)) name bytes
 puts-kept told kept files name bytes place file new is_told is_kept first is is_name new_bytes =
-    let P : List MemFile → Type 0 = λ some. IsFirstOf (files_told some) name place in
-    let at : get_or (files_told kept) place (file_told file) ≡ file_told file = get_or-map file_told kept place file ∙ ap file_told (sym is) in
-    let named : (file_told new).name ≡ (get_or (files_told kept) place (file_told file)).name =
+    let P : List MemFile → Type 0 = λ some. IsFirstOf (files_view some) name place in
+    let at : get_or (files_view kept) place (file_view file) ≡ file_view file = get_or-map file_view kept place file ∙ ap file_view (sym is) in
+    let named : (file_view new).name ≡ (get_or (files_view kept) place (file_view file)).name =
     ap string_bytes is_name ∙ sym (ap (λ f. f.name) at) in
-    let put : PutsFile (files_told kept) (set (files_told kept) place (file_told new)) name new.bytes.items =
-    puts-set (files_told kept) name place (file_told file) (file_told new) (subst P is_kept first) named in
-    let Q : List File → Type 0 = λ old. PutsFile old (files_told (set kept place new)) name bytes in
-    let R : List File → Type 0 = λ now. PutsFile (files_told kept) now name bytes in
-    let S : List ℕ → Type 0 = λ some. PutsFile (files_told kept) (set (files_told kept) place (file_told new)) name some in
-    subst Q is_told (subst R (sym (map-set file_told kept place new)) (subst S new_bytes put))
+    let put : PutsFile (files_view kept) (set (files_view kept) place (file_view new)) name new.bytes.items =
+    puts-set (files_view kept) name place (file_view file) (file_view new) (subst P is_kept first) named in
+    let Q : List File → Type 0 = λ old. PutsFile old (files_view (set kept place new)) name bytes in
+    let R : List File → Type 0 = λ now. PutsFile (files_view kept) now name bytes in
+    let S : List ℕ → Type 0 = λ some. PutsFile (files_view kept) (set (files_view kept) place (file_view new)) name some in
+    subst Q is_told (subst R (sym (map-set file_view kept place new)) (subst S new_bytes put))
 
 -- a further kept file
 pub puts-kept_last : (told : List File) (kept files now : List MemFile) (name bytes : List ℕ) (new : MemFile) →
-    files_told kept ≡ told → files ≡ kept → now ≡ kept ++ new ∷ [] →
-    file_of (files_told files) name ≡ None →
+    files_view kept ≡ told → files ≡ kept → now ≡ kept ++ new ∷ [] →
+    file_of (files_view files) name ≡ None →
     string_bytes new.name ≡ name → new.bytes.items ≡ bytes →
-    PutsFile told (files_told now) name bytes
+    PutsFile told (files_view now) name bytes
 puts-kept_last told kept files now name bytes new is_told is_kept is_now none is_name new_bytes =
-    let lacks : file_of (files_told kept) (string_bytes new.name) ≡ None =
-    ap (λ some. file_of (files_told some) (string_bytes new.name)) (sym is_kept) ∙ ap (file_of (files_told files)) is_name ∙ none in
-    let put : PutsFile (files_told kept) (files_told kept ++ file_told new ∷ []) (string_bytes new.name) new.bytes.items =
-    puts-append (files_told kept) (file_told new) lacks in
-    let Q : List File → Type 0 = λ old. PutsFile old (files_told now) name bytes in
-    let R : List File → Type 0 = λ after. PutsFile (files_told kept) after name bytes in
-    let S : List ℕ → Type 0 = λ some. PutsFile (files_told kept) (files_told kept ++ file_told new ∷ []) name some in
-    let U : List ℕ → Type 0 = λ some. PutsFile (files_told kept) (files_told kept ++ file_told new ∷ []) some new.bytes.items in
-    let is_all : files_told kept ++ file_told new ∷ [] ≡ files_told now =
-    sym (ap files_told is_now ∙ map-append file_told kept (new ∷ [])) in
+    let lacks : file_of (files_view kept) (string_bytes new.name) ≡ None =
+    ap (λ some. file_of (files_view some) (string_bytes new.name)) (sym is_kept) ∙ ap (file_of (files_view files)) is_name ∙ none in
+    let put : PutsFile (files_view kept) (files_view kept ++ file_view new ∷ []) (string_bytes new.name) new.bytes.items =
+    puts-append (files_view kept) (file_view new) lacks in
+    let Q : List File → Type 0 = λ old. PutsFile old (files_view now) name bytes in
+    let R : List File → Type 0 = λ after. PutsFile (files_view kept) after name bytes in
+    let S : List ℕ → Type 0 = λ some. PutsFile (files_view kept) (files_view kept ++ file_view new ∷ []) name some in
+    let U : List ℕ → Type 0 = λ some. PutsFile (files_view kept) (files_view kept ++ file_view new ∷ []) some new.bytes.items in
+    let is_all : files_view kept ++ file_view new ∷ [] ≡ files_view now =
+    sym (ap files_view is_now ∙ map-append file_view kept (new ∷ [])) in
     subst Q is_told (subst R is_all (subst S new_bytes (subst U is_name put)))

@@ -3,9 +3,9 @@ use Rattle.php_base.specs.Files.{File}
 use Rattle.php_base.specs.declared.mem_shelf.MemFile.{MemFile}
 
 -- a kept file as the shelf tells it
-abbrev pub file_told : MemFile → File
-file_told file = record { name = string_bytes file.name; bytes = file.bytes.items }
+abbrev pub file_view : MemFile → File
+file_view file = record { name = string_bytes file.name; bytes = file.bytes.items }
 
 -- the kept files as the shelf tells them
-abbrev pub files_told : List MemFile → List File
-files_told files = map file_told files
+abbrev pub files_view : List MemFile → List File
+files_view files = map file_view files

@@ -2,7 +2,7 @@ ghost use Rattle.std.specs.Prelude.{◌≡◌, ◌↔◌, [], ◌∷◌, ◌++�
 ghost use Rattle.std.specs.Option.{option_map};
 ghost use Rattle.php_base.specs.Counts.{counted_up};
 ghost use Rattle.php_base.specs.Files.{file_of, IsFirstOf, PutsFile};
-ghost use Rattle.php_base.specs.MemFiles.{files_told};
+ghost use Rattle.php_base.specs.MemFiles.{files_view};
 ghost use Rattle.php_base.specs.MemShelf.{fetch_fails};
 
 use crate::memory::NoMemory;
@@ -31,10 +31,10 @@ impl Model for MemShelf {
 
     ghost Value = { ShelfState };
 
-    ghost use Rattle.php_base.specs.MemFiles.{files_told};
+    ghost use Rattle.php_base.specs.MemFiles.{files_view};
 
     ghost view = { λ shelf. record {
-      files = files_told shelf.files.items;
+      files = files_view shelf.files.items;
       failing = shelf.failing.items;
       fetches = shelf.fetches;
       faults = shelf.faults;
@@ -118,8 +118,8 @@ impl Shelf for MemShelf {
 /// The place of the first file of this name.
 fn place_of(files: &[MemFile], name: &str) -> Option<usize>
     ensures within { IfSome result (λ place. place < length files.now) }
-    ensures found { IfSome result (λ place. IsFirstOf (files_told files.now) name.now place) }
-    ensures none { IfNone result (file_of (files_told files.now) name.now ≡ None) }
+    ensures found { IfSome result (λ place. IsFirstOf (files_view files.now) name.now place) }
+    ensures none { IfNone result (file_of (files_view files.now) name.now ≡ None) }
 {
     for (place, file) in files.iter().enumerate() {
         if name == file.name.as_str() {

@@ -34,8 +34,8 @@ pub trait Shelf {
         ensures faults_stay { faults self.old ≤ faults self.new }
 
         ensures within { IfOk result (λ bytes. vec_len bytes ≤ limit) }
-        ensures told { (files_told : List File) (bytes : List ℕ) →
-            files self.old ≡ Some files_told → file_of files_told name.now ≡ Some bytes →
+        ensures told { (files_view : List File) (bytes : List ℕ) →
+            files self.old ≡ Some files_view → file_of files_view name.now ≡ Some bytes →
             IfOk result (λ given. given.items ≡ take limit bytes) }
 
         ensures not_there { TellsNone (files self.old) name.now → IsErr result }
