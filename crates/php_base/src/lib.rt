@@ -17,6 +17,3 @@ pub use shelf::{Shelf, ShelfFail};
 pub use sink::{Failed, Sink, put_all};
 pub use std_shelf::StdShelf;
 pub use std_sink::StdSink;
-
-#[cfg(test)]
-mod tests;
