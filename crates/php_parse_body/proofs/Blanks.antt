@@ -1,10 +1,10 @@
 -- A form has no notes: noting nothing of its tokens leaves it as it is.
 use Rattle.std.proofs.Common.{◌≡◌, ℕ, ◌+◌, refl, ◌∙◌, ap}
-use Rattle.php_ast.specs.Tree.{Member, named, reserved, held}
-use Rattle.php_ast.specs.Tree.{leaf, template, enclosed, listed, exit, exit_empty, static_member, append, index, selected, computed, call, new, new_with, prefix, counted, binary, instance, static_instance, choice, short_choice, assign, yield_nothing, yield_value, yield_pair}
-use Rattle.php_ast.specs.Tree.{Items, none, and, skip, Lead, plain, reference, spread, keyed, keyed_reference, Pieces, no_piece, bytes, value, Class, class_name, class_static, class_found, Steps, from, step_property, step_index}
-use Rattle.php_ast.specs.Placed.{size, size_items, size_lead, size_pieces, size_class, size_steps, comma_size, setting_size, no_notes, noted, noted_member, noted_items, noted_lead, noted_pieces, noted_class, noted_steps}
-use Rattle.php_ast.specs.Machine.{Nothing, Form}
+use Rattle.php_ast.specs.expression.Tree.{Member, named, reserved, held}
+use Rattle.php_ast.specs.expression.Tree.{leaf, template, enclosed, listed, exit, exit_empty, static_member, append, index, selected, computed, call, new, new_with, prefix, counted, binary, instance, static_instance, choice, short_choice, assign, yield_nothing, yield_value, yield_pair}
+use Rattle.php_ast.specs.expression.Tree.{Items, none, and, skip, Lead, plain, reference, spread, keyed, keyed_reference, Pieces, no_piece, bytes, value, Class, class_name, class_static, class_found, Steps, from, step_property, step_index}
+use Rattle.php_ast.specs.expression.Placed.{size, size_items, size_lead, size_pieces, size_class, size_steps, comma_size, setting_size, no_notes, noted, noted_member, noted_items, noted_lead, noted_pieces, noted_class, noted_steps}
+use Rattle.php_grammar.specs.expression.Machine.{Nothing, Form}
 
 blank_member : (k : ℕ) (m : Member Nothing) → noted_member no_notes k m ≡ m
 blank_member k (named spot text) = refl

@@ -1,8 +1,8 @@
 -- From numbers that are below the limit, one by one, to the first of them that is too deep.
 use Rattle.std.proofs.Common.{◌≡◌, ◌≤◌, ◌<◌, ℕ, zero, suc, ◌+◌, Bool, true, false, Option, Some, None, List, [], ◌∷◌, take, refl, ◌∙◌, ap, arith, ltb-true, ltb-false}
 use Rattle.std.specs.Prelude.{nat_lt, get_or}
-use Rattle.php_ast.specs.Machine.{pick}
-use Rattle.php_ast.specs.TooDeep.{nesting_limit, one_further, first_too_deep}
+use Rattle.php_grammar.specs.expression.Machine.{pick}
+use Rattle.php_grammar.specs.TooDeep.{nesting_limit, one_further, first_too_deep}
 
 abbrev pub AllWithin : ℕ → List ℕ → Type 0
 AllWithin depth [] = Unit {0}

@@ -3,13 +3,13 @@ use Rattle.std.proofs.Common.{◌≡◌, ◌≢◌, ℕ, ◌+◌, Bool, true, fa
 use Rattle.std.specs.Prelude.{nat_lt}
 use Rattle.php_ast.specs.declared.operator.Assign.TheVariants as setting
 use Rattle.php_ast.specs.Symbol.{Symbol}
-use Rattle.php_ast.specs.Tree.{Items, skip, plain, keyed, keyed_reference, reference, spread, Class, class_name, class_static, class_found, exiting, exit, exit_empty, append, new, static_instance, by_value, by_reference, thin, colons, yield_nothing}
-use Rattle.php_ast.specs.Sign as sign
-use Rattle.php_ast.specs.Sign.{Beginning, begins_nothing, beginning, Continuation, draws, closes, neither, continuation, strength_of, ends_yield, applies, subscripts, selects, Mark, refers, spreads, ends_item, begins, item_mark, is_ampersand, is_paren, is_right_paren, is_right_bracket, is_colon}
-use Rattle.php_ast.specs.Machine.{Form, Holder, is_array, is_arguments, has_paren, may_end, enclosed_open, items_open, index_open, then_open, assign_open, short_open, yield_open, instance_open, OpenForms, State, expects, holds, past_items, past_value, past_exit, past_exit_paren, past_index, past_question, past_assign, past_class, past_static, past_yield, goes_on, start, item_step, ended_by, class_step, static_step, allowed_if, pick, advance, halt, halt_yield, halt_whole, is_last, missing_end, completed_all, closed_with, ended_items, after}
-use Rattle.php_ast.specs.Depth.{depth, depth_at, depth_behind}
-use Rattle.php_ast.specs.Laws.{head_continuation}
-use Rattle.php_ast.proofs.Signs.{closer_symbol, MarkSays, item_says}
+use Rattle.php_ast.specs.expression.Tree.{Items, skip, plain, keyed, keyed_reference, reference, spread, Class, class_name, class_static, class_found, exiting, exit, exit_empty, append, new, static_instance, by_value, by_reference, thin, colons, yield_nothing}
+use Rattle.php_grammar.specs.expression.Sign as sign
+use Rattle.php_grammar.specs.expression.Sign.{Beginning, begins_nothing, beginning, Continuation, draws, closes, neither, continuation, strength_of, ends_yield, applies, subscripts, selects, Mark, refers, spreads, ends_item, begins, item_mark, is_ampersand, is_paren, is_right_paren, is_right_bracket, is_colon}
+use Rattle.php_grammar.specs.expression.Machine.{Form, Holder, is_array, is_arguments, has_paren, may_end, enclosed_open, items_open, index_open, then_open, assign_open, short_open, yield_open, instance_open, OpenForms, State, expects, holds, past_items, past_value, past_exit, past_exit_paren, past_index, past_question, past_assign, past_class, past_static, past_yield, goes_on, start, item_step, ended_by, class_step, static_step, allowed_if, pick, advance, halt, halt_yield, halt_whole, is_last, missing_end, completed_all, closed_with, ended_items, after}
+use Rattle.php_grammar.specs.expression.Depth.{depth, depth_at, depth_behind}
+use Rattle.php_grammar.specs.expression.Laws.{head_continuation}
+use Rattle.php_grammar.proofs.expression.Signs.{closer_symbol, MarkSays, item_says}
 use Rattle.php_parse_body.specs.Walk.{outcome_of, outcome, stepped, walk, Leads}
 use Rattle.php_parse_body.specs.Seen.{test, head_mark}
 use Rattle.php_parse_body.specs.ListAnswer.{is_found}

@@ -3,14 +3,14 @@ use Rattle.std.proofs.Common.{◌≡◌, ◌≤◌, ◌<◌, true, false, ℕ, s
 use Rattle.std.proofs.lemmas.List.{take-append-drop, drop-drop, length-map, length-take, length-drop, map-append}
 use Rattle.php_lex.specs.Token.{Token}
 use Rattle.php_ast.specs.Symbol.{Symbol, symbol}
-use Rattle.php_ast.specs.Tree.{Tree}
-use Rattle.php_ast.specs.Proper.{ends_bare}
-use Rattle.php_ast.specs.View.{Note, view}
-use Rattle.php_ast.specs.Placed.{noted, no_notes, notes_of, form_of}
-use Rattle.php_ast.specs.Machine.{Form, expects}
-use Rattle.php_ast.specs.Laws.{Spells, BeginsExpression, IsSpelled}
-use Rattle.php_ast.proofs.Notes.{again}
-use Rattle.php_ast.proofs.LawProofs.{one_tree}
+use Rattle.php_ast.specs.expression.Tree.{Tree}
+use Rattle.php_ast.specs.expression.Proper.{ends_bare}
+use Rattle.php_ast.specs.expression.View.{Note, view}
+use Rattle.php_ast.specs.expression.Placed.{noted, no_notes, notes_of, form_of}
+use Rattle.php_grammar.specs.expression.Machine.{Form, expects}
+use Rattle.php_grammar.specs.expression.Laws.{Spells, BeginsExpression, IsSpelled}
+use Rattle.php_grammar.proofs.expression.Notes.{again}
+use Rattle.php_grammar.proofs.expression.LawProofs.{one_tree}
 use Rattle.php_parse_body.specs.declared.fail.Stop.{Stop}
 use Rattle.php_parse_body.specs.declared.fail.Stop.TheVariants.{Syntax, TooDeep, NoMemory}
 use Rattle.php_parse_body.specs.declared.fail.ParseFail.{ParseFail}
@@ -23,7 +23,7 @@ use Rattle.php_parse_body.proofs.Blanks.{blank}
 use Rattle.php_parse_body.proofs.Depths.{AllWithin, none_deep, first_deep}
 use Rattle.php_parse_body.proofs.Wholes.{cancel, over, ends_deep, whole_walk, short_walk, deep_walk}
 use Rattle.php_parse_body.proofs.Walked.{walks, EndsIn}
-use Rattle.php_ast.specs.Nesting.{nests}
+use Rattle.php_ast.specs.expression.Nesting.{nests}
 
 -- ---- the tokens between two places
 

@@ -2,8 +2,8 @@
 use Rattle.std.proofs.Common.{◌≡◌, ◌≤◌, ◌⊎◌, inl, ℕ, ◌+◌, ◌-◌, List, ◌∷◌, arith}
 use Rattle.php_lex.specs.Token.{Token}
 use Rattle.php_ast.specs.Symbol.{Symbol}
-use Rattle.php_ast.specs.Machine.{OpenForm, OpenForms, State, expects, least_power_at}
-use Rattle.php_ast.specs.Depth.{deepened}
+use Rattle.php_grammar.specs.expression.Machine.{OpenForm, OpenForms, State, expects, least_power_at}
+use Rattle.php_grammar.specs.expression.Depth.{deepened}
 use Rattle.php_parse_body.specs.declared.fail.Stop.{Stop}
 use Rattle.php_parse_body.specs.declared.fail.Stop.TheVariants.{Syntax, TooDeep, NoMemory}
 use Rattle.php_parse_body.specs.Walk.{Leads}

@@ -20,7 +20,7 @@ use Rattle.php_ast.specs.declared.expression.Named.TheVariants as arrow
 use Rattle.php_ast.specs.declared.expression.Member as behind_colons
 use Rattle.php_ast.specs.declared.expression.Link.{Link}
 use Rattle.php_ast.specs.declared.expression.Link.TheVariants as link
-use Rattle.php_ast.specs.PrintParts.{item_with, argument_with, named_with, suffix_with, link_with}
+use Rattle.php_ast.specs.expression.Parts.{item_with, argument_with, named_with, suffix_with, link_with}
 use Rattle.php_parse_body.specs.Flat.{Top, chain, Shape, shape, shape_step, unchained, item_flat, link_row, link_flat, has_power, is_some, chain_shape, run_shape, is_flat, is_flat_leaf, is_run_top, are_flat_items, are_flat_suffixes, is_flat_link, is_flat_run, starts_run}
 
 -- ---- tests

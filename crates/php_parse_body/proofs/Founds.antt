@@ -4,11 +4,11 @@ use Rattle.php_lex.specs.Token.{Token}
 use Rattle.php_ast.specs.Symbol.{Symbol}
 use Rattle.std.proofs.lemmas.Bool.{lt-ltb}
 use Rattle.php_ast.specs.declared.operator.ArrayForm.TheVariants as array_form
-use Rattle.php_ast.specs.Depth.{depth_at}
-use Rattle.php_ast.specs.Tree.{colons, parentheses, emptiness, exiting, array, isset}
-use Rattle.php_ast.specs.Sign.{Continuation, draws, continuation, selects, Beginning, is_leaf, is_static, is_quote, is_exit, is_new, is_yield, encloses, lists, prefixes, begins_nothing, beginning}
-use Rattle.php_ast.specs.Machine.{OpenForms, State, expects, past_static, instance_open, least_power, operand_level, prefix_open, past_yield, allowed_if, advance, start, static_step, started}
-use Rattle.php_ast.specs.Laws.{head_continuation}
+use Rattle.php_grammar.specs.expression.Depth.{depth_at}
+use Rattle.php_ast.specs.expression.Tree.{colons, parentheses, emptiness, exiting, array, isset}
+use Rattle.php_grammar.specs.expression.Sign.{Continuation, draws, continuation, selects, Beginning, is_leaf, is_static, is_quote, is_exit, is_new, is_yield, encloses, lists, prefixes, begins_nothing, beginning}
+use Rattle.php_grammar.specs.expression.Machine.{OpenForms, State, expects, past_static, instance_open, least_power, operand_level, prefix_open, past_yield, allowed_if, advance, start, static_step, started}
+use Rattle.php_grammar.specs.expression.Laws.{head_continuation}
 use Rattle.php_parse_body.specs.declared.fail.Stop.{Stop}
 use Rattle.php_parse_body.specs.declared.reader.Read.{Read}
 use Rattle.php_parse_body.specs.Walk.{Leads, Halts, walk, short, deep}

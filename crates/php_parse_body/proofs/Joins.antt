@@ -10,22 +10,22 @@ use Rattle.php_ast.specs.declared.operator.Prefix.{Prefix}
 use Rattle.php_ast.specs.declared.operator.Count.{Count}
 use Rattle.php_ast.specs.Symbol.{Symbol}
 use Rattle.php_lex.specs.Token.{Token}
-use Rattle.php_ast.specs.Tree.{Tree, Setting}
-use Rattle.php_ast.specs.View.{Note}
-use Rattle.php_ast.specs.Placed.{size, setting_size, noted, notes_of}
+use Rattle.php_ast.specs.expression.Tree.{Tree, Setting}
+use Rattle.php_ast.specs.expression.View.{Note}
+use Rattle.php_ast.specs.expression.Placed.{size, setting_size, noted, notes_of}
 use Rattle.php_parse_body.specs.declared.fail.Stop.{Stop}
 use Rattle.php_parse_body.specs.declared.fail.Stop.TheVariants.{Syntax, TooDeep, NoMemory}
 use Rattle.php_parse_body.specs.Answer.{Spans, Fails}
-use Rattle.php_ast.specs.Nesting.{right_depth}
+use Rattle.php_ast.specs.expression.Nesting.{right_depth}
 use Rattle.php_ast.specs.Power.{binary_row}
-use Rattle.php_ast.specs.Proper.{ends, right, is_call}
-use Rattle.php_ast.specs.Tree.{prefix, counted, binary, instance, static_instance, choice, short_choice, assign, by_value, by_reference, yield_nothing, yield_value, yield_pair, colons}
-use Rattle.php_ast.specs.Sign as sign
-use Rattle.php_ast.specs.Sign.{Beginning, begins_nothing, is_static, is_yield, prefixes, beginning, Draw, joins, checks, chooses, sets, counts, draw_strength, Continuation, closes, draws, neither, continuation, strength_of, is_arrow, ends_yield, selects, is_ampersand, is_colon}
-use Rattle.php_ast.specs.Machine.{Form, OpenForm, prefix_open, binary_open, assign_open, else_open, short_open, then_open, instance_open, yield_open, yield_value_open, OpenForms, State, expects, holds, past_assign, past_question, past_yield, past_static, operand_level, least_power_at, least_power, ends_at, completed, pick, allowed_if, started, start, after, after_by, closed, goes_on}
-use Rattle.php_ast.specs.Depth.{deepened, depth, depth_behind}
-use Rattle.php_ast.specs.Laws.{head_continuation}
-use Rattle.php_ast.proofs.Fill.{binary_bound}
+use Rattle.php_ast.specs.expression.Proper.{ends, right, is_call}
+use Rattle.php_ast.specs.expression.Tree.{prefix, counted, binary, instance, static_instance, choice, short_choice, assign, by_value, by_reference, yield_nothing, yield_value, yield_pair, colons}
+use Rattle.php_grammar.specs.expression.Sign as sign
+use Rattle.php_grammar.specs.expression.Sign.{Beginning, begins_nothing, is_static, is_yield, prefixes, beginning, Draw, joins, checks, chooses, sets, counts, draw_strength, Continuation, closes, draws, neither, continuation, strength_of, is_arrow, ends_yield, selects, is_ampersand, is_colon}
+use Rattle.php_grammar.specs.expression.Machine.{Form, OpenForm, prefix_open, binary_open, assign_open, else_open, short_open, then_open, instance_open, yield_open, yield_value_open, OpenForms, State, expects, holds, past_assign, past_question, past_yield, past_static, operand_level, least_power_at, least_power, ends_at, completed, pick, allowed_if, started, start, after, after_by, closed, goes_on}
+use Rattle.php_grammar.specs.expression.Depth.{deepened, depth, depth_behind}
+use Rattle.php_grammar.specs.expression.Laws.{head_continuation}
+use Rattle.php_grammar.proofs.expression.Fill.{binary_bound}
 use Rattle.php_parse_body.specs.Walk.{Leads, Halts, Rests, head_strength, walk, short}
 use Rattle.php_parse_body.specs.Seen.{test, head_beginning, NoOperand}
 use Rattle.php_parse_body.proofs.Moves.{leads, leads_halts, move, sticks, inside, finish, finish_instance, completed_ends, draw, call_halts, close, unclosed_halts}

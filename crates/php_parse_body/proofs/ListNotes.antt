@@ -8,15 +8,15 @@ use Rattle.php_ast.specs.declared.expression.Item.TheVariants as item
 use Rattle.php_ast.specs.declared.operator.ArrayForm.{ArrayForm}
 use Rattle.php_ast.specs.declared.operator.ArrayForm.TheVariants as array_form
 use Rattle.php_ast.specs.Symbol.{Symbol}
-use Rattle.php_ast.specs.Proper.{is_none}
-use Rattle.php_ast.specs.Tree.{Listing}
-use Rattle.php_ast.specs.Tree.{Tree, Items, none, and, skip, Lead, plain, listed, array}
-use Rattle.php_ast.specs.View.{Note, view, item_more, items_from, argument_more, arguments_from, values_from}
-use Rattle.php_ast.specs.Placed.{size_items, size_lead, comma_size, list_opening_size, noted, noted_items, noted_lead, notes_of}
-use Rattle.php_ast.specs.Sign as sign
-use Rattle.php_ast.specs.Sign.{Mark, refers, spreads, ends_item, begins, item_mark, mark_of, Continuation, closes, draws, neither, continuation, is_ampersand, is_paren, lists, beginning}
-use Rattle.php_ast.specs.Machine.{Nothing, Form, of_list, is_plain, past_items, past_value, ended_items}
-use Rattle.php_ast.specs.Laws.{head_continuation}
+use Rattle.php_ast.specs.expression.Proper.{is_none}
+use Rattle.php_ast.specs.expression.Tree.{Listing}
+use Rattle.php_ast.specs.expression.Tree.{Tree, Items, none, and, skip, Lead, plain, listed, array}
+use Rattle.php_ast.specs.expression.View.{Note, view, item_more, items_from, argument_more, arguments_from, values_from}
+use Rattle.php_ast.specs.expression.Placed.{size_items, size_lead, comma_size, list_opening_size, noted, noted_items, noted_lead, notes_of}
+use Rattle.php_grammar.specs.expression.Sign as sign
+use Rattle.php_grammar.specs.expression.Sign.{Mark, refers, spreads, ends_item, begins, item_mark, mark_of, Continuation, closes, draws, neither, continuation, is_ampersand, is_paren, lists, beginning}
+use Rattle.php_grammar.specs.expression.Machine.{Nothing, Form, of_list, is_plain, past_items, past_value, ended_items}
+use Rattle.php_grammar.specs.expression.Laws.{head_continuation}
 use Rattle.php_parse_body.specs.Walk.{Leads}
 use Rattle.php_parse_body.specs.Parts.{item_parts, argument_parts}
 use Rattle.php_parse_body.specs.Answer.{Spans}

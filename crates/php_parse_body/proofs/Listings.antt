@@ -7,13 +7,13 @@ use Rattle.php_ast.specs.declared.operator.ArrayForm.{ArrayForm}
 use Rattle.php_ast.specs.declared.operator.ArrayForm.TheVariants as array_form
 use Rattle.php_ast.specs.Symbol.{Symbol, punct}
 use Rattle.php_lex.specs.declared.kind.Punct.TheVariants as mark
-use Rattle.php_ast.specs.Proper.{ends, is_none}
-use Rattle.php_ast.specs.Tree.{Listing}
-use Rattle.php_ast.specs.Tree.{Items, none, and, skip, Lead, plain, reference, spread, keyed, keyed_reference, listed, array, isset}
-use Rattle.php_ast.specs.Sign as sign
-use Rattle.php_ast.specs.Sign.{Mark, refers, spreads, ends_item, begins, item_mark, mark_of, Continuation, closes, draws, neither, continuation, is_ampersand, is_paren, lists, beginning}
-use Rattle.php_ast.specs.Machine.{Nothing, Form, Holder, of_call, of_new, of_list, is_array, is_arguments, has_paren, may_end, is_plain, items_open, OpenForms, State, expects, holds, past_items, past_value, due_listed, closed, keys, closed_with, ended_items, after, item_step, allowed_if, pick, start, started}
-use Rattle.php_ast.specs.Laws.{head_continuation}
+use Rattle.php_ast.specs.expression.Proper.{ends, is_none}
+use Rattle.php_ast.specs.expression.Tree.{Listing}
+use Rattle.php_ast.specs.expression.Tree.{Items, none, and, skip, Lead, plain, reference, spread, keyed, keyed_reference, listed, array, isset}
+use Rattle.php_grammar.specs.expression.Sign as sign
+use Rattle.php_grammar.specs.expression.Sign.{Mark, refers, spreads, ends_item, begins, item_mark, mark_of, Continuation, closes, draws, neither, continuation, is_ampersand, is_paren, lists, beginning}
+use Rattle.php_grammar.specs.expression.Machine.{Nothing, Form, Holder, of_call, of_new, of_list, is_array, is_arguments, has_paren, may_end, is_plain, items_open, OpenForms, State, expects, holds, past_items, past_value, due_listed, closed, keys, closed_with, ended_items, after, item_step, allowed_if, pick, start, started}
+use Rattle.php_grammar.specs.expression.Laws.{head_continuation}
 use Rattle.php_parse_body.specs.Walk.{Leads, Halts, Rests, walk, short}
 use Rattle.php_parse_body.specs.Seen.{test, head_mark}
 use Rattle.php_parse_body.specs.ListAnswer.{closer_in}

@@ -9,15 +9,15 @@ use Rattle.php_ast.specs.declared.expression.Piece.TheVariants as piece
 use Rattle.php_ast.specs.declared.expression.ClassStep.{ClassStep}
 use Rattle.php_ast.specs.Symbol as sort
 use Rattle.php_ast.specs.Symbol.{Symbol}
-use Rattle.php_ast.specs.Proper.{ends}
-use Rattle.php_ast.specs.Tree.{Tree, Items, none, Member, Class, class_name, class_found, Steps, from, step_property, step_index, new, new_with, Pieces, no_piece, bytes, value, template, thin}
-use Rattle.php_ast.specs.View.{Note, step_more, steps_from, piece_more, pieces_from}
-use Rattle.php_ast.specs.Placed.{size_class, size_steps, size_pieces, noted, noted_class, noted_steps, noted_member, noted_items, noted_pieces, notes_of}
-use Rattle.php_ast.specs.Sign as sign
-use Rattle.php_ast.specs.Sign.{beginning, is_new, is_quote, closes, continuation, draws, selects, word_of}
-use Rattle.php_ast.specs.Machine.{Nothing, Form, of_new, step_open, part_open, OpenForms, State, expects, holds, past_new, past_class, past_step, past_items, past_template, closed, class_step, new_step, template_step, with_member, started}
-use Rattle.php_ast.specs.Laws.{head_continuation}
-use Rattle.php_ast.proofs.Fill.{least_power_most}
+use Rattle.php_ast.specs.expression.Proper.{ends}
+use Rattle.php_ast.specs.expression.Tree.{Tree, Items, none, Member, Class, class_name, class_found, Steps, from, step_property, step_index, new, new_with, Pieces, no_piece, bytes, value, template, thin}
+use Rattle.php_ast.specs.expression.View.{Note, step_more, steps_from, piece_more, pieces_from}
+use Rattle.php_ast.specs.expression.Placed.{size_class, size_steps, size_pieces, noted, noted_class, noted_steps, noted_member, noted_items, noted_pieces, notes_of}
+use Rattle.php_grammar.specs.expression.Sign as sign
+use Rattle.php_grammar.specs.expression.Sign.{beginning, is_new, is_quote, closes, continuation, draws, selects, word_of}
+use Rattle.php_grammar.specs.expression.Machine.{Nothing, Form, of_new, step_open, part_open, OpenForms, State, expects, holds, past_new, past_class, past_step, past_items, past_template, closed, class_step, new_step, template_step, with_member, started}
+use Rattle.php_grammar.specs.expression.Laws.{head_continuation}
+use Rattle.php_grammar.proofs.expression.Fill.{least_power_most}
 use Rattle.php_parse_body.specs.Walk.{Leads, Halts, Rests, walk, short}
 use Rattle.php_parse_body.specs.Seen.{head_word, named_class, head_class, Mold, is_bytes, is_opened, is_over, is_other, mold, head_mold}
 use Rattle.php_parse_body.specs.Parts.{piece_parts, step_parts}

@@ -6,17 +6,17 @@ use Rattle.php_ast.specs.Symbol.{Symbol}
 use Rattle.php_ast.specs.declared.operator.Binary.{Binary}
 use Rattle.php_ast.specs.declared.operator.Binary.TheVariants as binary
 use Rattle.php_ast.specs.Power.{binary_row}
-use Rattle.php_ast.specs.Proper.{ends, right}
-use Rattle.php_ast.specs.Sign as sign
-use Rattle.php_ast.specs.Sign.{Draw, draw_strength, Continuation, draws, closes, neither, continuation, strength_of, is_arrow}
-use Rattle.php_ast.specs.Machine.{Form, OpenForm, enclosed_open, items_open, index_open, computed_open, step_open, part_open, then_open, else_open, short_open, prefix_open, binary_open, instance_open, assign_open, yield_open, yield_value_open, OpenForms, State, expects, holds, least_power_at, least_power, ends_at, completed, seated, seat_end, completed_all, missing_end, closing_part, operand_level, after_by, after, holds_call, pick, allowed_if, released, opened_by, closed, continued, goes_on, advance, halt}
-use Rattle.php_ast.specs.Depth.{deepened, depth, kept, depth_behind, depth_at}
-use Rattle.php_ast.specs.Laws.{head_continuation}
-use Rattle.php_ast.specs.Tree.{instance}
-use Rattle.php_ast.specs.Proper.{is_call}
-use Rattle.php_ast.proofs.Fill.{without_end, without_end_call, least_power_most}
-use Rattle.php_ast.proofs.Steps.{after_low, goes_on_draws}
-use Rattle.php_ast.proofs.Settle.{releases_none, kept_power, ends_top}
+use Rattle.php_ast.specs.expression.Proper.{ends, right}
+use Rattle.php_grammar.specs.expression.Sign as sign
+use Rattle.php_grammar.specs.expression.Sign.{Draw, draw_strength, Continuation, draws, closes, neither, continuation, strength_of, is_arrow}
+use Rattle.php_grammar.specs.expression.Machine.{Form, OpenForm, enclosed_open, items_open, index_open, computed_open, step_open, part_open, then_open, else_open, short_open, prefix_open, binary_open, instance_open, assign_open, yield_open, yield_value_open, OpenForms, State, expects, holds, least_power_at, least_power, ends_at, completed, seated, seat_end, completed_all, missing_end, closing_part, operand_level, after_by, after, holds_call, pick, allowed_if, released, opened_by, closed, continued, goes_on, advance, halt}
+use Rattle.php_grammar.specs.expression.Depth.{deepened, depth, kept, depth_behind, depth_at}
+use Rattle.php_grammar.specs.expression.Laws.{head_continuation}
+use Rattle.php_ast.specs.expression.Tree.{instance}
+use Rattle.php_ast.specs.expression.Proper.{is_call}
+use Rattle.php_grammar.proofs.expression.Fill.{without_end, without_end_call, least_power_most}
+use Rattle.php_grammar.proofs.expression.Steps.{after_low, goes_on_draws}
+use Rattle.php_grammar.proofs.expression.Settle.{releases_none, kept_power, ends_top}
 use Rattle.php_parse_body.specs.Walk.{short, outcome_of, outcome, stepped, walk, IsOrderly, Leads, Halts, stopped, head_strength, Rests}
 
 -- ---- one symbol

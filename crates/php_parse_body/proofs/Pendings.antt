@@ -2,11 +2,11 @@
 use Rattle.std.proofs.Common.{◌≡◌, ◌≤◌, ◌<◌, ℕ, suc, min, true, Result, Ok, Err, List, [], ◌∷◌, ◌++◌, length, refl, sym, ◌∙◌, ap, subst, arith, inr}
 use Rattle.php_lex.specs.Token.{Token}
 use Rattle.php_ast.specs.Symbol.{Symbol}
-use Rattle.php_ast.specs.Proper.{edge, ends, right}
-use Rattle.php_ast.specs.View.{view}
-use Rattle.php_ast.specs.Sign.{ends_yield}
-use Rattle.php_ast.specs.Laws.{head_continuation}
-use Rattle.php_ast.specs.Machine.{OpenForms, State, expects, holds, completed}
+use Rattle.php_ast.specs.expression.Proper.{edge, ends, right}
+use Rattle.php_ast.specs.expression.View.{view}
+use Rattle.php_grammar.specs.expression.Sign.{ends_yield}
+use Rattle.php_grammar.specs.expression.Laws.{head_continuation}
+use Rattle.php_grammar.specs.expression.Machine.{OpenForms, State, expects, holds, completed}
 use Rattle.php_parse_body.specs.declared.fail.Stop.{Stop}
 use Rattle.php_parse_body.specs.declared.reader.Read.{Read}
 use Rattle.php_parse_body.specs.declared.pending.Between.{Between}

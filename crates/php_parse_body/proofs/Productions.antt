@@ -2,26 +2,26 @@
 use Rattle.std.proofs.Common.{◌≡◌, ◌≢◌, ◌≤◌, inl, ℕ, ◌+◌, ◌-◌, Bool, true, false, Some, None, List, [], ◌∷◌, refl, ◌∙◌, ap, arith}
 use Rattle.php_lex.specs.Token.{Token}
 use Rattle.php_ast.specs.Symbol.{Symbol}
-use Rattle.php_ast.specs.Proper.{ends}
-use Rattle.php_ast.specs.Tree.{Tree, Leaf, Enclosure, parentheses, emptiness, exiting, leaf, enclosed, exit, exit_empty, static_member, colons, Member}
-use Rattle.php_ast.specs.View.{Note}
-use Rattle.php_ast.specs.Placed.{opening_size, noted, noted_member, notes_of}
-use Rattle.php_ast.specs.Sign as sign
-use Rattle.php_ast.specs.Sign.{is_leaf, is_static, is_exit, encloses, beginning, closes, continuation, draws, selects, is_paren, is_right_paren, member_of}
-use Rattle.php_ast.specs.Machine.{Nothing, Form, OpenForm, enclosed_open, OpenForms, State, expects, holds, due_enclosed, past_exit, past_exit_paren, past_static, past_static_colons, closed, started, static_step, with_member, allowed_if, pick, goes_on, least_power_at, start}
-use Rattle.php_ast.specs.Depth.{depth, deepened, static_depth}
-use Rattle.php_ast.specs.Laws.{head_continuation}
+use Rattle.php_ast.specs.expression.Proper.{ends}
+use Rattle.php_ast.specs.expression.Tree.{Tree, Leaf, Enclosure, parentheses, emptiness, exiting, leaf, enclosed, exit, exit_empty, static_member, colons, Member}
+use Rattle.php_ast.specs.expression.View.{Note}
+use Rattle.php_ast.specs.expression.Placed.{opening_size, noted, noted_member, notes_of}
+use Rattle.php_grammar.specs.expression.Sign as sign
+use Rattle.php_grammar.specs.expression.Sign.{is_leaf, is_static, is_exit, encloses, beginning, closes, continuation, draws, selects, is_paren, is_right_paren, member_of}
+use Rattle.php_grammar.specs.expression.Machine.{Nothing, Form, OpenForm, enclosed_open, OpenForms, State, expects, holds, due_enclosed, past_exit, past_exit_paren, past_static, past_static_colons, closed, started, static_step, with_member, allowed_if, pick, goes_on, least_power_at, start}
+use Rattle.php_grammar.specs.expression.Depth.{depth, deepened, static_depth}
+use Rattle.php_grammar.specs.expression.Laws.{head_continuation}
 use Rattle.php_parse_body.specs.Walk.{Leads, Halts, Rests}
 use Rattle.php_parse_body.specs.declared.fail.Stop.{Stop}
 use Rattle.php_parse_body.specs.declared.fail.Stop.TheVariants.{Syntax, TooDeep, NoMemory}
 use Rattle.php_parse_body.specs.Answer.{Spans, Fails}
 use Rattle.php_lex.specs.declared.kind.Punct.TheVariants as mark
-use Rattle.php_ast.specs.Machine.{instance_open}
-use Rattle.php_ast.specs.Depth.{depth_behind}
+use Rattle.php_grammar.specs.expression.Machine.{instance_open}
+use Rattle.php_grammar.specs.expression.Depth.{depth_behind}
 use Rattle.php_ast.specs.Symbol.{punct}
-use Rattle.php_ast.proofs.Fill.{least_power_most}
-use Rattle.php_ast.proofs.Settle.{kept_power}
-use Rattle.php_ast.proofs.Signs.{paren_says, TestSays}
+use Rattle.php_grammar.proofs.expression.Fill.{least_power_most}
+use Rattle.php_grammar.proofs.expression.Settle.{kept_power}
+use Rattle.php_grammar.proofs.expression.Signs.{paren_says, TestSays}
 use Rattle.php_parse_body.specs.Walk.{walk, short}
 use Rattle.php_parse_body.specs.Seen.{test, head_member}
 use Rattle.php_parse_body.proofs.Enters.{exit_alone, exit_enters}

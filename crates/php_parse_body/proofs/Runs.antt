@@ -7,8 +7,8 @@ use Rattle.php_ast.specs.declared.expression.Expr.TheOpen.{Expr-F}
 use Rattle.php_ast.specs.declared.expression.Expr.TheFolds.{fold-roll-Expr}
 use Rattle.php_ast.specs.declared.expression.Link.{Link}
 use Rattle.php_ast.specs.declared.expression.Link.TheVariants as link
-use Rattle.php_ast.specs.Tree.{Tree}
-use Rattle.php_ast.specs.View.{Note, view, view_step, with_links}
+use Rattle.php_ast.specs.expression.Tree.{Tree}
+use Rattle.php_ast.specs.expression.View.{Note, view, view_step, with_links}
 use Rattle.php_parse_body.specs.Parts.{link_parts}
 
 -- A function that does the same at each variant is the same.

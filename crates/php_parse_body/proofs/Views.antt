@@ -7,8 +7,8 @@ use Rattle.php_ast.specs.declared.expression.Argument.{Argument}
 use Rattle.php_ast.specs.declared.expression.Suffix.{Suffix}
 use Rattle.php_ast.specs.declared.expression.ClassStep.{ClassStep}
 use Rattle.php_ast.specs.declared.expression.Link.{Link}
-use Rattle.php_ast.specs.Tree.{Tree, Items, plain, and, Pieces, Steps}
-use Rattle.php_ast.specs.View.{Note, view, piece_more, pieces_from, item_more, items_from, argument_more, arguments_from, values_from, step_more, steps_from, with_suffix, with_suffixes, with_link, with_links}
+use Rattle.php_ast.specs.expression.Tree.{Tree, Items, plain, and, Pieces, Steps}
+use Rattle.php_ast.specs.expression.View.{Note, view, piece_more, pieces_from, item_more, items_from, argument_more, arguments_from, values_from, step_more, steps_from, with_suffix, with_suffixes, with_link, with_links}
 use Rattle.php_parse_body.specs.Parts.{piece_parts, item_parts, argument_parts, suffix_parts, step_parts, link_parts}
 
 pub map_push : {A B : Type 0} (f : A → B) (xs : List A) (x : A) → map f (xs ++ x ∷ []) ≡ map f xs ++ f x ∷ []

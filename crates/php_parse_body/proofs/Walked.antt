@@ -2,8 +2,8 @@
 use Rattle.std.proofs.Common.{◌≡◌, ◌≢◌, ◌≤◌, ◌<◌, ◌⊎◌, inl, inr, ℕ, suc, Bool, true, false, Option, Some, None, List, [], ◌∷◌, ◌++◌, length, refl, ◌∙◌, ap, ltb-true, ltb-false}
 use Rattle.std.specs.Prelude.{nat_lt}
 use Rattle.php_ast.specs.Symbol.{Symbol}
-use Rattle.php_ast.specs.Machine.{Form, OpenForms, State, past_static, past_yield, instance_open, advance, halt, halt_yield, is_last, missing_end, or_halt, read_from, Reading}
-use Rattle.php_ast.specs.Depth.{depth_at, depths_read, noting}
+use Rattle.php_grammar.specs.expression.Machine.{Form, OpenForms, State, past_static, past_yield, instance_open, advance, halt, halt_yield, is_last, missing_end, or_halt, read_from, Reading}
+use Rattle.php_grammar.specs.expression.Depth.{depth_at, depths_read, noting}
 use Rattle.php_parse_body.specs.Walk.{Outcome, whole, short, deep, outcome_of, outcome, stepped, walk}
 
 abbrev pub AllAtMost : ℕ → List ℕ → Type 0

@@ -6,17 +6,17 @@ use Rattle.std.proofs.lemmas.List.{length-append}
 use Rattle.std.proofs.Math.Seq.{take-append_seam}
 use Rattle.php_lex.specs.declared.kind.Punct.TheVariants as mark
 use Rattle.php_ast.specs.Symbol.{Symbol, punct}
-use Rattle.php_ast.specs.Tree.{Class, class_name, class_static, class_found, new, exit, static_instance, yield_nothing, thin, colons}
-use Rattle.php_ast.specs.Spelling.{spell}
-use Rattle.php_ast.specs.Proper.{Proper, ends, ends_bare}
-use Rattle.php_ast.specs.Nesting.{nests}
-use Rattle.php_ast.specs.Sign as sign
-use Rattle.php_ast.specs.Sign.{Draw, draw_strength, Continuation, draws, closes, neither, continuation, strength_of, is_arrow, ends_yield}
-use Rattle.php_ast.specs.Machine.{Nothing, Form, OpenForm, enclosed_open, items_open, yield_open, instance_open, OpenForms, State, expects, holds, past_exit, past_static, past_class, past_yield, past_arrow, class_step, closed, advance, halt, Reading, read, read_from, or_halt, goes_on, released, opened_by, allowed_if, closes_in}
-use Rattle.php_ast.specs.Depth.{depth_at, depths_read, noting}
-use Rattle.php_ast.specs.Laws.{Spells, BeginsExpression, EndsBefore, head_continuation}
-use Rattle.php_ast.proofs.Appended.{spell_append}
-use Rattle.php_ast.proofs.LawProofs.{reading_begins, reads_back, unfinished, stops_exactly, nesting_agrees}
+use Rattle.php_ast.specs.expression.Tree.{Class, class_name, class_static, class_found, new, exit, static_instance, yield_nothing, thin, colons}
+use Rattle.php_ast.specs.expression.Spelling.{spell}
+use Rattle.php_ast.specs.expression.Proper.{Proper, ends, ends_bare}
+use Rattle.php_ast.specs.expression.Nesting.{nests}
+use Rattle.php_grammar.specs.expression.Sign as sign
+use Rattle.php_grammar.specs.expression.Sign.{Draw, draw_strength, Continuation, draws, closes, neither, continuation, strength_of, is_arrow, ends_yield}
+use Rattle.php_grammar.specs.expression.Machine.{Nothing, Form, OpenForm, enclosed_open, items_open, yield_open, instance_open, OpenForms, State, expects, holds, past_exit, past_static, past_class, past_yield, past_arrow, class_step, closed, advance, halt, Reading, read, read_from, or_halt, goes_on, released, opened_by, allowed_if, closes_in}
+use Rattle.php_grammar.specs.expression.Depth.{depth_at, depths_read, noting}
+use Rattle.php_grammar.specs.expression.Laws.{Spells, BeginsExpression, EndsBefore, head_continuation}
+use Rattle.php_grammar.proofs.expression.Appended.{spell_append}
+use Rattle.php_grammar.proofs.expression.LawProofs.{reading_begins, reads_back, unfinished, stops_exactly, nesting_agrees}
 use Rattle.php_parse_body.specs.Walk.{whole, short, deep, outcome_of, outcome, walk, Rests}
 use Rattle.php_parse_body.proofs.Depths.{AllWithin, SinksAt}
 use Rattle.php_parse_body.proofs.Moves.{sticks, draws_some}

@@ -6,18 +6,18 @@ use Rattle.php_lex.specs.Token.{Token, token_at}
 use Rattle.php_ast.specs.declared.spot.Spot.{Spot}
 use Rattle.php_ast.specs.declared.spot.Word.{Word}
 use Rattle.php_ast.specs.Symbol.{symbol}
-use Rattle.php_ast.specs.Tree.{named, reserved}
-use Rattle.php_ast.specs.View.{Note, note}
-use Rattle.php_ast.specs.Placed.{notes_of}
-use Rattle.php_ast.specs.Proper.{may_name}
-use Rattle.php_ast.specs.Sign.{Mark, item_mark, reserved_if}
+use Rattle.php_ast.specs.expression.Tree.{named, reserved}
+use Rattle.php_ast.specs.expression.View.{Note, note}
+use Rattle.php_ast.specs.expression.Placed.{notes_of}
+use Rattle.php_ast.specs.expression.Proper.{may_name}
+use Rattle.php_grammar.specs.expression.Sign.{Mark, item_mark, reserved_if}
 use Rattle.php_parse_body.specs.SignView.{IsMark}
 use Rattle.php_lex.specs.declared.kind.TokenKind.TheVariants.{Variable, Keyword}
 use Rattle.php_ast.specs.declared.spot.Name.{Name}
 use Rattle.php_ast.specs.declared.expression.Member.TheVariants as member
 use Rattle.php_ast.specs.Symbol.{symbol_of}
-use Rattle.php_ast.specs.Tree.{held}
-use Rattle.php_ast.specs.Sign.{member_of}
+use Rattle.php_ast.specs.expression.Tree.{held}
+use Rattle.php_grammar.specs.expression.Sign.{member_of}
 use Rattle.php_parse_body.specs.Seen.{Stands, Words, ShowsWord, ShowsMember, IsNamed, SeesMark, head_mark, head_member, head_word, rest}
 
 word_by : (tokens : List Token) (at : ℕ) (k : Option word.Keyword) (spot : Spot) (text : List ℕ) → Stands tokens at (symbol (token_at tokens at)) → Words (token_at tokens at).kind (Some k)

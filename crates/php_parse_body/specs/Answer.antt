@@ -6,16 +6,16 @@ use Rattle.php_lex.specs.Token.{Token}
 use Rattle.php_ast.specs.declared.expression.Expr.{Expr}
 use Rattle.php_ast.specs.declared.expression.Suffix.{Suffix}
 use Rattle.php_ast.specs.Symbol.{Symbol}
-use Rattle.php_ast.specs.Tree as tree
-use Rattle.php_ast.specs.Tree.{Tree, array, isset}
-use Rattle.php_ast.specs.Proper.{ends, ends_bare, is_call}
-use Rattle.php_ast.specs.View as shown
-use Rattle.php_ast.specs.View.{Note, view}
-use Rattle.php_ast.specs.Placed.{size, noted, notes_of}
-use Rattle.php_ast.specs.Sign as sign
-use Rattle.php_ast.specs.Sign.{closes, continuation, draws, draw_strength, ends_yield}
-use Rattle.php_ast.specs.Laws.{head_continuation}
-use Rattle.php_ast.specs.Machine.{Form, OpenForms, State, expects, holds, after, yield_open}
+use Rattle.php_ast.specs.expression.Tree as tree
+use Rattle.php_ast.specs.expression.Tree.{Tree, array, isset}
+use Rattle.php_ast.specs.expression.Proper.{ends, ends_bare, is_call}
+use Rattle.php_ast.specs.expression.View as shown
+use Rattle.php_ast.specs.expression.View.{Note, view}
+use Rattle.php_ast.specs.expression.Placed.{size, noted, notes_of}
+use Rattle.php_grammar.specs.expression.Sign as sign
+use Rattle.php_grammar.specs.expression.Sign.{closes, continuation, draws, draw_strength, ends_yield}
+use Rattle.php_grammar.specs.expression.Laws.{head_continuation}
+use Rattle.php_grammar.specs.expression.Machine.{Form, OpenForms, State, expects, holds, after, yield_open}
 use Rattle.php_parse_body.specs.declared.fail.Stop.{Stop}
 use Rattle.php_parse_body.specs.declared.fail.Stop.TheVariants.{Syntax, TooDeep, NoMemory}
 use Rattle.php_parse_body.specs.declared.reader.Read.{Read}

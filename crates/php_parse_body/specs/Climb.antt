@@ -3,11 +3,11 @@
 use Rattle.std.specs.Prelude.{◌≡◌, ◌≤◌, ◌<◌, ℕ, ◌+◌, ◌-◌, ◌*◌, min, true, Result, Ok, Err, List, [], ◌∷◌, length}
 use Rattle.php_lex.specs.Token.{Token}
 use Rattle.php_ast.specs.Symbol.{Symbol}
-use Rattle.php_ast.specs.Tree.{Tree}
-use Rattle.php_ast.specs.Proper.{edge, ends, ends_bare, right}
-use Rattle.php_ast.specs.View.{Note, view}
-use Rattle.php_ast.specs.Machine.{Form, OpenForm, OpenForms, State, expects, holds, then_open, least_power_at, ends_at, completed}
-use Rattle.php_ast.specs.Depth.{deepened}
+use Rattle.php_ast.specs.expression.Tree.{Tree}
+use Rattle.php_ast.specs.expression.Proper.{edge, ends, ends_bare, right}
+use Rattle.php_ast.specs.expression.View.{Note, view}
+use Rattle.php_grammar.specs.expression.Machine.{Form, OpenForm, OpenForms, State, expects, holds, then_open, least_power_at, ends_at, completed}
+use Rattle.php_grammar.specs.expression.Depth.{deepened}
 use Rattle.php_parse_body.specs.declared.fail.Stop.{Stop}
 use Rattle.php_parse_body.specs.declared.reader.Read.{Read}
 use Rattle.php_parse_body.specs.declared.pending.Pending.{Pending}

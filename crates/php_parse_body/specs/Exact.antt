@@ -3,15 +3,15 @@ use Rattle.std.specs.Prelude.{◌≡◌, ◌≤◌, ◌<◌, ℕ, ◌+◌, ◌-�
 use Rattle.php_lex.specs.Token.{Token, token_at}
 use Rattle.php_ast.specs.declared.expression.Expr.{Expr}
 use Rattle.php_ast.specs.Symbol.{Symbol, symbol}
-use Rattle.php_ast.specs.Tree.{Tree}
-use Rattle.php_ast.specs.Proper.{ends_bare}
-use Rattle.php_ast.specs.View.{Note, view}
-use Rattle.php_ast.specs.Placed.{form_of}
-use Rattle.php_ast.specs.Nesting.{nests}
-use Rattle.php_ast.specs.TooDeep.{first_too_deep}
-use Rattle.php_ast.specs.Sign.{ends_yield}
-use Rattle.php_ast.specs.Machine.{Form}
-use Rattle.php_ast.specs.Laws.{Spells, BeginsExpression, IsSpelled, head_continuation}
+use Rattle.php_ast.specs.expression.Tree.{Tree}
+use Rattle.php_ast.specs.expression.Proper.{ends_bare}
+use Rattle.php_ast.specs.expression.View.{Note, view}
+use Rattle.php_ast.specs.expression.Placed.{form_of}
+use Rattle.php_ast.specs.expression.Nesting.{nests}
+use Rattle.php_grammar.specs.TooDeep.{first_too_deep}
+use Rattle.php_grammar.specs.expression.Sign.{ends_yield}
+use Rattle.php_grammar.specs.expression.Machine.{Form}
+use Rattle.php_grammar.specs.expression.Laws.{Spells, BeginsExpression, IsSpelled, head_continuation}
 use Rattle.php_parse_body.specs.declared.fail.ParseFail.{ParseFail}
 use Rattle.php_parse_body.specs.declared.fail.ParseFail.TheVariants.{Syntax, TooDeep, NoMemory}
 use Rattle.php_parse_body.specs.declared.fail.Stop.{Stop}

@@ -21,7 +21,7 @@ use Rattle.php_ast.specs.declared.expression.ClassStep.TheVariants as class_step
 use Rattle.php_ast.specs.declared.expression.Link.{Link}
 use Rattle.php_ast.specs.declared.expression.Link.TheVariants as link
 use Rattle.php_ast.specs.Power.{Grouping, to_left, Row, binary_row, choice_row}
-use Rattle.php_ast.specs.PrintParts.{piece_with, item_with, argument_with, suffix_with, step_with, class_with, link_with}
+use Rattle.php_ast.specs.expression.Parts.{piece_with, item_with, argument_with, suffix_with, step_with, class_with, link_with}
 
 -- ---- what is known of a part
 

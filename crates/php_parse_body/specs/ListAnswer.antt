@@ -7,16 +7,16 @@ use Rattle.php_ast.specs.declared.expression.Item.{Item}
 use Rattle.php_ast.specs.declared.expression.Class.{Class}
 use Rattle.php_ast.specs.declared.operator.ArrayForm.{ArrayForm}
 use Rattle.php_ast.specs.declared.operator.ArrayForm.TheVariants as array_form
-use Rattle.php_ast.specs.Tree as tree
-use Rattle.php_ast.specs.Tree.{Tree, array, isset}
-use Rattle.php_ast.specs.Proper.{ends, is_none}
-use Rattle.php_ast.specs.View as shown
-use Rattle.php_ast.specs.View.{Note, view}
-use Rattle.php_ast.specs.Placed.{size, size_items, size_lead, size_class, size_steps, size_pieces, comma_size, noted, noted_items, noted_lead, noted_class, noted_steps, noted_pieces, notes_of}
-use Rattle.php_ast.specs.Sign as sign
-use Rattle.php_ast.specs.Sign.{closes, continuation, draws, draw_strength, ends_yield}
-use Rattle.php_ast.specs.Laws.{head_continuation}
-use Rattle.php_ast.specs.Machine.{Nothing, Form, Holder, of_list, is_arguments, is_plain, items_open, closed_with, OpenForms, State, holds, past_items, past_value, past_new, past_class, past_template, after}
+use Rattle.php_ast.specs.expression.Tree as tree
+use Rattle.php_ast.specs.expression.Tree.{Tree, array, isset}
+use Rattle.php_ast.specs.expression.Proper.{ends, is_none}
+use Rattle.php_ast.specs.expression.View as shown
+use Rattle.php_ast.specs.expression.View.{Note, view}
+use Rattle.php_ast.specs.expression.Placed.{size, size_items, size_lead, size_class, size_steps, size_pieces, comma_size, noted, noted_items, noted_lead, noted_class, noted_steps, noted_pieces, notes_of}
+use Rattle.php_grammar.specs.expression.Sign as sign
+use Rattle.php_grammar.specs.expression.Sign.{closes, continuation, draws, draw_strength, ends_yield}
+use Rattle.php_grammar.specs.expression.Laws.{head_continuation}
+use Rattle.php_grammar.specs.expression.Machine.{Nothing, Form, Holder, of_list, is_arguments, is_plain, items_open, closed_with, OpenForms, State, holds, past_items, past_value, past_new, past_class, past_template, after}
 use Rattle.php_parse_body.specs.declared.fail.Stop.{Stop}
 use Rattle.php_parse_body.specs.declared.reader.Listed.{Listed}
 use Rattle.php_parse_body.specs.declared.reader.Entry.{Entry}

@@ -17,8 +17,8 @@ use Rattle.php_ast.specs.declared.expression.ClassStep.{ClassStep}
 use Rattle.php_ast.specs.declared.expression.ClassStep.TheVariants as class_step
 use Rattle.php_ast.specs.declared.expression.Link.{Link}
 use Rattle.php_ast.specs.declared.expression.Link.TheVariants as link
-use Rattle.php_ast.specs.Tree.{Tree}
-use Rattle.php_ast.specs.View.{Note, view}
+use Rattle.php_ast.specs.expression.Tree.{Tree}
+use Rattle.php_ast.specs.expression.View.{Note, view}
 
 abbrev pub piece_parts : Piece Expr → Piece (Tree Note)
 piece_parts (piece.Bytes text) = piece.Bytes text

@@ -4,17 +4,17 @@ use Rattle.php_lex.specs.Token.{Token, token_at}
 use Rattle.php_lex.specs.declared.kind.Keyword.{Keyword}
 use Rattle.php_lex.specs.declared.kind.TokenKind.{TokenKind}
 use Rattle.php_ast.specs.Symbol.{Symbol, symbol, symbol_of}
-use Rattle.php_ast.specs.Sign.{Beginning, begins_nothing, is_yield, prefixes, beginning, Continuation, neither, continuation, Mark, begins, item_mark, word_of, member_of}
+use Rattle.php_grammar.specs.expression.Sign.{Beginning, begins_nothing, is_yield, prefixes, beginning, Continuation, neither, continuation, Mark, begins, item_mark, word_of, member_of}
 use Rattle.php_ast.specs.declared.spot.Name.{Name}
 use Rattle.php_ast.specs.declared.spot.Word.{Word}
 use Rattle.php_ast.specs.declared.expression.Member as behind_colons
 use Rattle.php_lex.specs.declared.kind.Keyword.TheVariants as word
 use Rattle.php_ast.specs.Symbol as sort
-use Rattle.php_ast.specs.Tree.{Member, named, reserved, Class, class_name, class_static, class_found, from}
-use Rattle.php_ast.specs.View.{note, word_view, member_view}
-use Rattle.php_ast.specs.Placed.{noted_member, notes_of}
-use Rattle.php_ast.specs.Proper.{may_name, IsWord}
-use Rattle.php_ast.specs.Laws.{head_continuation}
+use Rattle.php_ast.specs.expression.Tree.{Member, named, reserved, Class, class_name, class_static, class_found, from}
+use Rattle.php_ast.specs.expression.View.{note, word_view, member_view}
+use Rattle.php_ast.specs.expression.Placed.{noted_member, notes_of}
+use Rattle.php_ast.specs.expression.Proper.{may_name, IsWord}
+use Rattle.php_grammar.specs.expression.Laws.{head_continuation}
 
 -- the symbols from a place on
 abbrev pub rest : List Token → ℕ → List Symbol

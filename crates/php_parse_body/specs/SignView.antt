@@ -1,8 +1,8 @@
 -- From the roles of tokens in the program to those of the grammar.
 use Rattle.std.specs.Prelude.{◌≡◌, ◌≢◌, ℕ, Bool, true, false, Option, Some, None, List}
-use Rattle.php_ast.specs.Tree.{Leaf, variable, int, string, name, magic, parentheses, emptiness, array, isset, thin, colons}
-use Rattle.php_ast.specs.Sign as sign
-use Rattle.php_ast.specs.Sign.{Beginning, is_leaf, is_static, is_quote, is_exit, is_new, is_yield, encloses, lists, prefixes, begins_nothing, beginning, Draw, joins, checks, chooses, sets, counts, applies, subscripts, selects, Continuation, draws, closes, neither, Mark}
+use Rattle.php_ast.specs.expression.Tree.{Leaf, variable, int, string, name, magic, parentheses, emptiness, array, isset, thin, colons}
+use Rattle.php_grammar.specs.expression.Sign as sign
+use Rattle.php_grammar.specs.expression.Sign.{Beginning, is_leaf, is_static, is_quote, is_exit, is_new, is_yield, encloses, lists, prefixes, begins_nothing, beginning, Draw, joins, checks, chooses, sets, counts, applies, subscripts, selects, Continuation, draws, closes, neither, Mark}
 use Rattle.php_parse_body.specs.declared.sign.LeafKind.{LeafKind}
 use Rattle.php_parse_body.specs.declared.sign.LeafKind.TheVariants as leaf
 use Rattle.php_parse_body.specs.declared.sign.Opening.{Opening}
@@ -19,7 +19,7 @@ use Rattle.php_parse_body.specs.declared.sign.ClassKind.{ClassKind}
 use Rattle.php_parse_body.specs.declared.sign.ClassKind.TheVariants as class_kind
 use Rattle.php_parse_body.specs.declared.sign.Mold as rust_mold
 use Rattle.php_parse_body.specs.declared.sign.Mold.TheVariants as mold
-use Rattle.php_ast.specs.Tree.{Class, class_name, class_static, class_found, from}
+use Rattle.php_ast.specs.expression.Tree.{Class, class_name, class_static, class_found, from}
 use Rattle.php_parse_body.specs.Seen.{Mold, is_bytes, is_opened, is_over, is_other, NoOperand, head_beginning, rest, Shows}
 use Rattle.php_lex.specs.Token.{Token, token_at}
 use Rattle.php_parse_body.specs.declared.sign.Next.{Next}

@@ -2,9 +2,9 @@
 
 ghost use Rattle.std.specs.Prelude.{◌≡◌, true, false, map, IfOk};
 ghost use Rattle.php_ast.specs.Power.{binary_row};
-ghost use Rattle.php_ast.specs.Tree as tree;
-ghost use Rattle.php_ast.specs.View as shown;
-ghost use Rattle.php_ast.specs.View.{view, note};
+ghost use Rattle.php_ast.specs.expression.Tree as tree;
+ghost use Rattle.php_ast.specs.expression.View as shown;
+ghost use Rattle.php_ast.specs.expression.View.{view, note};
 ghost use Rattle.php_parse_body.specs.Parts as part;
 ghost use Rattle.php_parse_body.specs.Flat.{are_flat, are_flat_arguments, are_flat_items, are_flat_pieces, are_flat_suffixes, is_flat, is_flat_class, is_flat_leaf, is_flat_link, is_flat_run, is_flat_suffix, is_left, is_run, link_row, starts_run};
 

@@ -1,9 +1,9 @@
 // `new` and its class.
 
 ghost use Rattle.std.specs.Prelude.{◌≡◌, ◌≤◌, ◌<◌, ◌+◌, ◌-◌, ℕ, length, true, false, Some};
-ghost use Rattle.php_ast.specs.Tree.{thin, class_found, from};
-ghost use Rattle.php_ast.specs.Sign as sign;
-ghost use Rattle.php_ast.specs.Sign.{beginning, continuation, draws};
+ghost use Rattle.php_ast.specs.expression.Tree.{thin, class_found, from};
+ghost use Rattle.php_grammar.specs.expression.Sign as sign;
+ghost use Rattle.php_grammar.specs.expression.Sign.{beginning, continuation, draws};
 ghost use Rattle.php_lex.specs.Token.{token_at};
 ghost use Rattle.php_parse_body.specs.Answer.{AnswersLeaf, Ready};
 ghost use Rattle.php_parse_body.specs.ListAnswer.{AnswersClass, AnswersStep, SeesArguments, SeesStep};

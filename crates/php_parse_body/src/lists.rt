@@ -3,11 +3,11 @@
 ghost use Rattle.std.specs.Prelude.{◌≡◌, ◌≢◌, ◌≤◌, ◌<◌, ◌+◌, ◌-◌, ◌++◌, [], ◌∷◌, ℕ, length, true, false, IfOk};
 ghost use Rattle.php_ast.specs.declared.expression.Item.TheVariants.{Missing};
 ghost use Rattle.php_ast.specs.declared.operator.ArrayForm.TheVariants as array_form;
-ghost use Rattle.php_ast.specs.Tree as tree;
-ghost use Rattle.php_ast.specs.Sign as sign;
-ghost use Rattle.php_ast.specs.Sign.{beginning, closes, draws};
-ghost use Rattle.php_ast.specs.Laws.{head_continuation};
-ghost use Rattle.php_ast.specs.View.{view};
+ghost use Rattle.php_ast.specs.expression.Tree as tree;
+ghost use Rattle.php_grammar.specs.expression.Sign as sign;
+ghost use Rattle.php_grammar.specs.expression.Sign.{beginning, closes, draws};
+ghost use Rattle.php_grammar.specs.expression.Laws.{head_continuation};
+ghost use Rattle.php_ast.specs.expression.View.{view};
 ghost use Rattle.php_parse_body.specs.Answer.{AnswersLeaf, Ready};
 ghost use Rattle.php_parse_body.specs.ListAnswer.{AnswersArgument, AnswersArguments, AnswersItem, AnswersItems, AnswersKeyed, AnswersValues, closer_in};
 ghost use Rattle.php_parse_body.specs.Flat.{is_flat};

@@ -2,11 +2,11 @@
 
 ghost use Rattle.std.specs.Prelude.{◌≡◌, ◌≤◌, ◌<◌, ◌+◌, ◌-◌, ℕ, length, true, false, IfOk};
 ghost use Rattle.php_lex.specs.Token.{token_at};
-ghost use Rattle.php_ast.specs.Tree as tree;
-ghost use Rattle.php_ast.specs.Sign as sign;
-ghost use Rattle.php_ast.specs.Sign.{beginning, continuation};
-ghost use Rattle.php_ast.specs.View.{view};
-ghost use Rattle.php_ast.specs.Placed.{notes_of};
+ghost use Rattle.php_ast.specs.expression.Tree as tree;
+ghost use Rattle.php_grammar.specs.expression.Sign as sign;
+ghost use Rattle.php_grammar.specs.expression.Sign.{beginning, continuation};
+ghost use Rattle.php_ast.specs.expression.View.{view};
+ghost use Rattle.php_ast.specs.expression.Placed.{notes_of};
 ghost use Rattle.php_parse_body.specs.Answer.{AnswersLeaf, Ready};
 ghost use Rattle.php_parse_body.specs.Flat.{is_flat_leaf};
 ghost use Rattle.php_parse_body.specs.Seen.{Shows};

@@ -2,12 +2,12 @@
 
 ghost use Rattle.std.specs.Prelude.{◌≡◌, ◌≤◌, ◌<◌, ◌+◌, ◌-◌, ℕ, length, true, false};
 ghost use Rattle.php_lex.specs.Token.{token_at};
-ghost use Rattle.php_ast.specs.Tree.{colons};
-ghost use Rattle.php_ast.specs.Nesting.{right_depth};
+ghost use Rattle.php_ast.specs.expression.Tree.{colons};
+ghost use Rattle.php_ast.specs.expression.Nesting.{right_depth};
 ghost use Rattle.php_ast.specs.Power.{binary_row, choice_row, instance_row};
-ghost use Rattle.php_ast.specs.Proper.{edge};
-ghost use Rattle.php_ast.specs.Sign as sign;
-ghost use Rattle.php_ast.specs.Sign.{beginning, closes, continuation, draws, draw_strength, is_colon};
+ghost use Rattle.php_ast.specs.expression.Proper.{edge};
+ghost use Rattle.php_grammar.specs.expression.Sign as sign;
+ghost use Rattle.php_grammar.specs.expression.Sign.{beginning, closes, continuation, draws, draw_strength, is_colon};
 ghost use Rattle.php_parse_body.specs.Answer.{AnswersBehind, Ready};
 ghost use Rattle.php_parse_body.specs.Climb.{AnswersHalf, AnswersOnward};
 ghost use Rattle.php_parse_body.specs.declared.sign.Opening.TheVariants.{Static};

@@ -2,8 +2,8 @@
 
 ghost use Rattle.std.specs.Prelude.{◌≡◌, ◌≤◌, true, IfOk};
 ghost use Rattle.php_ast.specs.PowerView.{row_view};
-ghost use Rattle.php_ast.specs.Proper.{edge, right};
-ghost use Rattle.php_ast.specs.View.{view};
+ghost use Rattle.php_ast.specs.expression.Proper.{edge, right};
+ghost use Rattle.php_ast.specs.expression.View.{view};
 ghost use Rattle.php_parse_body.specs.Flat.{is_flat};
 ghost use Rattle.php_parse_body.specs.BetweenView.{are_flat_sides, closed_view, row_between};
 

@@ -2,13 +2,13 @@
 
 ghost use Rattle.std.specs.Prelude.{◌≡◌, ◌≤◌, ◌<◌, ◌+◌, ◌-◌, ◌^◌, ℕ, suc, length, true, false};
 ghost use Rattle.php_lex.specs.Token.{token_at};
-ghost use Rattle.php_ast.specs.Tree.{colons};
+ghost use Rattle.php_ast.specs.expression.Tree.{colons};
 ghost use Rattle.php_ast.specs.Power.{assign_row, yield_power};
-ghost use Rattle.php_ast.specs.Proper.{edge, right};
-ghost use Rattle.php_ast.specs.Sign as sign;
-ghost use Rattle.php_ast.specs.Sign.{beginning, closes, continuation, draws, ends_yield, is_ampersand};
+ghost use Rattle.php_ast.specs.expression.Proper.{edge, right};
+ghost use Rattle.php_grammar.specs.expression.Sign as sign;
+ghost use Rattle.php_grammar.specs.expression.Sign.{beginning, closes, continuation, draws, ends_yield, is_ampersand};
 ghost use Rattle.php_ast.specs.declared.operator.Assign.TheVariants.{Plain};
-ghost use Rattle.php_ast.specs.Laws.{head_continuation};
+ghost use Rattle.php_grammar.specs.expression.Laws.{head_continuation};
 ghost use Rattle.php_parse_body.specs.declared.sign.Opening.TheVariants.{Static};
 ghost use Rattle.php_parse_body.specs.Answer.{AnswersAssigned, AnswersHere, AnswersYield, Ready, SeesChange, SeesStatic};
 ghost use Rattle.php_parse_body.specs.Seen.{Shows, rest, test};

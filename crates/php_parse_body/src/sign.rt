@@ -2,9 +2,9 @@
 
 ghost use Rattle.std.specs.Prelude.{◌≡◌, ℕ, ℤ, List, true, false};
 ghost use Rattle.php_ast.specs.Symbol.{symbol_of};
-ghost use Rattle.php_ast.specs.Sign.{beginning, beginning_keyword, beginning_punct, beginning_cast, continuation, continuation_keyword, continuation_punct, item_mark, draw_strength, draws, is_leaf, refers, spreads};
-ghost use Rattle.php_ast.specs.Sign as sign;
-ghost use Rattle.php_ast.specs.Tree as tree;
+ghost use Rattle.php_grammar.specs.expression.Sign.{beginning, beginning_keyword, beginning_punct, beginning_cast, continuation, continuation_keyword, continuation_punct, item_mark, draw_strength, draws, is_leaf, refers, spreads};
+ghost use Rattle.php_grammar.specs.expression.Sign as sign;
+ghost use Rattle.php_ast.specs.expression.Tree as tree;
 ghost use Rattle.php_parse_body.specs.SignView.{start_view, leaf_view, next_view, infix_view, tail_view, IsMark, class_kind_view, mold_view};
 ghost use Rattle.php_parse_body.specs.Seen.{named_class, mold};
 

@@ -2,12 +2,12 @@
 
 ghost use Rattle.std.specs.Prelude.{◌≡◌, ◌≤◌, ◌<◌, ◌+◌, ◌-◌, ℕ, length, true, false};
 ghost use Rattle.php_lex.specs.Token.{token_at};
-ghost use Rattle.php_ast.specs.Proper.{ends};
-ghost use Rattle.php_ast.specs.Placed.{size};
-ghost use Rattle.php_ast.specs.Sign as sign;
-ghost use Rattle.php_ast.specs.Sign.{beginning, continuation, draws, draw_strength, is_left_brace};
-ghost use Rattle.php_ast.specs.Machine.{Form};
-ghost use Rattle.php_ast.specs.Tree.{thin, colons};
+ghost use Rattle.php_ast.specs.expression.Proper.{ends};
+ghost use Rattle.php_ast.specs.expression.Placed.{size};
+ghost use Rattle.php_grammar.specs.expression.Sign as sign;
+ghost use Rattle.php_grammar.specs.expression.Sign.{beginning, continuation, draws, draw_strength, is_left_brace};
+ghost use Rattle.php_grammar.specs.expression.Machine.{Form};
+ghost use Rattle.php_ast.specs.expression.Tree.{thin, colons};
 ghost use Rattle.php_parse_body.specs.Answer.{AnswersOperand, AnswersSuffix, Ready, SeesTail};
 ghost use Rattle.php_parse_body.specs.declared.sign.Opening.TheVariants.{Static};
 ghost use Rattle.php_parse_body.specs.Seen.{Shows, test, rest};

@@ -1,8 +1,8 @@
 // Texts with parts.
 
 ghost use Rattle.std.specs.Prelude.{◌≡◌, ◌≤◌, ◌<◌, ◌+◌, ◌-◌, ℕ, length, true, false};
-ghost use Rattle.php_ast.specs.Sign as sign;
-ghost use Rattle.php_ast.specs.Sign.{beginning};
+ghost use Rattle.php_grammar.specs.expression.Sign as sign;
+ghost use Rattle.php_grammar.specs.expression.Sign.{beginning};
 ghost use Rattle.php_parse_body.specs.Answer.{AnswersLeaf, Ready};
 ghost use Rattle.php_parse_body.specs.ListAnswer.{AnswersPart, AnswersPieces};
 ghost use Rattle.php_parse_body.specs.Seen.{Shows, is_opened, mold};

@@ -1,5 +1,5 @@
 use Rattle.std.proofs.Common.{◌≡◌, ◌∙◌, sym, ap, subst, IfOk}
-use Rattle.php_ast.specs.View.{view, with_link}
+use Rattle.php_ast.specs.expression.View.{view, with_link}
 use Rattle.php_parse_body.specs.Parts.{link_parts}
 use Rattle.php_parse_body.specs.Flat.{starts_run}
 use Rattle.php_parse_body.proofs.Views.{link_push}

@@ -1,5 +1,5 @@
 use Rattle.std.proofs.Common.{refl, arith}
-use Rattle.php_ast.specs.Tree.{step_property}
+use Rattle.php_ast.specs.expression.Tree.{step_property}
 use Rattle.php_parse_body.proofs.Makes.{step_reads, step_halts, step_shown}
 use Rattle.php_parse_body.proofs.classes.property_step.Goals as goal
 

@@ -1,5 +1,5 @@
 use Rattle.std.proofs.Common.{sym, subst}
-use Rattle.php_ast.specs.Machine.{expects}
+use Rattle.php_grammar.specs.expression.Machine.{expects}
 use Rattle.php_parse_body.specs.Answer.{Fails}
 use Rattle.php_parse_body.specs.Seen.{rest}
 use Rattle.php_parse_body.proofs.expression.+expr.Goals as goal

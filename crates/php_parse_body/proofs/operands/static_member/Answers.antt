@@ -1,5 +1,5 @@
 use Rattle.std.proofs.Common.{refl, arith}
-use Rattle.php_ast.specs.Tree.{static_member}
+use Rattle.php_ast.specs.expression.Tree.{static_member}
 use Rattle.php_parse_body.proofs.Productions.{static_reads, static_halts, static_spans}
 use Rattle.php_parse_body.proofs.operands.static_member.Goals as goal
 

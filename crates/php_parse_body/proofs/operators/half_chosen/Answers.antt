@@ -1,5 +1,5 @@
 use Rattle.std.proofs.Common.{refl, arith}
-use Rattle.php_ast.specs.Machine.{else_open}
+use Rattle.php_grammar.specs.expression.Machine.{else_open}
 use Rattle.php_parse_body.proofs.Joins.{else_begins, choice_spans}
 use Rattle.php_parse_body.proofs.operators.half_chosen.Goals as goal
 

@@ -1,5 +1,5 @@
 use Rattle.std.proofs.Common.{refl, arith}
-use Rattle.php_ast.specs.Tree.{colons, selected}
+use Rattle.php_ast.specs.expression.Tree.{colons, selected}
 use Rattle.php_parse_body.proofs.Trails.{member_reads, member_halts, selected_spans}
 use Rattle.php_parse_body.proofs.suffixes.member.Goals as goal
 

@@ -1,6 +1,6 @@
 use Rattle.std.proofs.Common.{refl, arith, ◌∙◌}
-use Rattle.php_ast.specs.Tree.{thin, selected}
-use Rattle.php_ast.specs.Placed.{noted, notes_of}
+use Rattle.php_ast.specs.expression.Tree.{thin, selected}
+use Rattle.php_ast.specs.expression.Placed.{noted, notes_of}
 use Rattle.php_parse_body.proofs.Trails.{property_reads, property_halts, selected_spans}
 use Rattle.php_parse_body.proofs.suffixes.property.Goals as goal
 

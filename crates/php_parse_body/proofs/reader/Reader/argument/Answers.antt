@@ -1,10 +1,10 @@
 use Rattle.std.proofs.Common.{◌+◌, ◌∙◌, refl, arith, ap}
 use Rattle.std.proofs.lemmas.Result.{err_from_is_err_and}
 use Rattle.php_parse_body.proofs.Fails.{between}
-use Rattle.php_ast.specs.Tree as tree
-use Rattle.php_ast.specs.Tree.{plain, spread}
-use Rattle.php_ast.specs.Placed.{noted, notes_of}
-use Rattle.php_ast.specs.Machine.{items_open}
+use Rattle.php_ast.specs.expression.Tree as tree
+use Rattle.php_ast.specs.expression.Tree.{plain, spread}
+use Rattle.php_ast.specs.expression.Placed.{noted, notes_of}
+use Rattle.php_grammar.specs.expression.Machine.{items_open}
 use Rattle.php_parse_body.proofs.Listings.{spread_opens, spread_halts, argument_opens, item_in}
 use Rattle.php_parse_body.proofs.reader.Reader.argument.Goals as goal
 

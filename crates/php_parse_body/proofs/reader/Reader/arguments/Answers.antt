@@ -1,6 +1,6 @@
 use Rattle.std.proofs.Common.{refl, arith, ap, map}
-use Rattle.php_ast.specs.Tree.{none}
-use Rattle.php_ast.specs.View.{arguments_from}
+use Rattle.php_ast.specs.expression.Tree.{none}
+use Rattle.php_ast.specs.expression.View.{arguments_from}
 use Rattle.php_parse_body.specs.Parts.{argument_parts}
 use Rattle.php_parse_body.proofs.Listings.{no_arguments_read, no_arguments_halt}
 use Rattle.php_parse_body.specs.Flat.{are_flat_arguments}

@@ -2,8 +2,8 @@ use Rattle.std.proofs.Common.{◌+◌, refl, arith}
 use Rattle.std.proofs.lemmas.Result.{err_from_is_err_and}
 use Rattle.php_parse_body.proofs.Fails.{later}
 use Rattle.php_ast.specs.declared.operator.ArrayForm.TheVariants as array_form
-use Rattle.php_ast.specs.Tree.{none, listed, array}
-use Rattle.php_ast.specs.Machine.{past_items, of_list}
+use Rattle.php_ast.specs.expression.Tree.{none, listed, array}
+use Rattle.php_grammar.specs.expression.Machine.{past_items, of_list}
 use Rattle.php_parse_body.proofs.Moves.{leads}
 use Rattle.php_parse_body.proofs.Listings.{brackets_open}
 use Rattle.php_parse_body.proofs.ListNotes.{listed_spans}

@@ -1,8 +1,8 @@
 use Rattle.std.proofs.Common.{◌+◌, ◌-◌, refl, arith, inr}
 use Rattle.std.proofs.lemmas.Result.{err_from_is_err_and}
 use Rattle.php_parse_body.proofs.Fails.{within}
-use Rattle.php_ast.specs.Tree.{assign, by_value}
-use Rattle.php_ast.specs.Machine.{assign_open}
+use Rattle.php_ast.specs.expression.Tree.{assign, by_value}
+use Rattle.php_grammar.specs.expression.Machine.{assign_open}
 use Rattle.php_parse_body.proofs.Joins.{operator_reads, operator_rests, value_opens, assign_spans}
 use Rattle.php_parse_body.proofs.reader.Reader.by_value.Goals as goal
 

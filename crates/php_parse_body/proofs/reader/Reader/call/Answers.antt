@@ -1,7 +1,7 @@
 use Rattle.std.proofs.Common.{◌+◌, refl, arith}
 use Rattle.std.proofs.lemmas.Result.{err_from_is_err_and}
-use Rattle.php_ast.specs.Tree.{call, none}
-use Rattle.php_ast.specs.Machine.{of_call, past_items}
+use Rattle.php_ast.specs.expression.Tree.{call, none}
+use Rattle.php_grammar.specs.expression.Machine.{of_call, past_items}
 use Rattle.php_parse_body.proofs.Fails.{later}
 use Rattle.php_parse_body.proofs.Trails.{call_begins, call_spans}
 use Rattle.php_parse_body.proofs.Moves.{leads}

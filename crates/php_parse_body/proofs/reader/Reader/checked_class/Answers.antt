@@ -1,6 +1,6 @@
 use Rattle.std.proofs.Common.{◌+◌, ◌∙◌, refl, arith, sym}
 use Rattle.std.proofs.lemmas.Result.{err_from_is_err_and}
-use Rattle.php_ast.specs.Tree.{instance}
+use Rattle.php_ast.specs.expression.Tree.{instance}
 use Rattle.php_parse_body.proofs.Joins.{instance_opens, instance_reads, instance_halts, instance_fails, instance_spans, instance_rests}
 use Rattle.php_parse_body.proofs.reader.Reader.checked_class.Goals as goal
 

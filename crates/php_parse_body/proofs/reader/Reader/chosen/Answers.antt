@@ -1,5 +1,5 @@
 use Rattle.std.proofs.Common.{◌+◌, ◌-◌, ◌∷◌, refl, arith, inl}
-use Rattle.php_ast.specs.Machine.{short_open, then_open, expects, holds}
+use Rattle.php_grammar.specs.expression.Machine.{short_open, then_open, expects, holds}
 use Rattle.php_parse_body.proofs.Fails.{between}
 use Rattle.php_parse_body.proofs.Moves.{leads, inside}
 use Rattle.php_parse_body.proofs.Pendings.{onward_behind}

@@ -1,7 +1,7 @@
 use Rattle.std.proofs.Common.{◌++◌, ◌∷◌, [], arith, sym, subst}
 use Rattle.std.proofs.lemmas.Result.{err_from_is_err_and}
-use Rattle.php_ast.specs.Machine.{expects, holds}
-use Rattle.php_ast.specs.Proper.{right}
+use Rattle.php_grammar.specs.expression.Machine.{expects, holds}
+use Rattle.php_ast.specs.expression.Proper.{right}
 use Rattle.php_parse_body.specs.BetweenView.{row_between}
 use Rattle.php_parse_body.specs.Seen.{rest}
 use Rattle.php_parse_body.specs.Answer.{Found}

@@ -1,7 +1,7 @@
 use Rattle.std.proofs.Common.{◌+◌, refl, arith}
 use Rattle.std.proofs.lemmas.Result.{err_from_is_err_and}
-use Rattle.php_ast.specs.Tree.{computed}
-use Rattle.php_ast.specs.Machine.{computed_open}
+use Rattle.php_ast.specs.expression.Tree.{computed}
+use Rattle.php_grammar.specs.expression.Machine.{computed_open}
 use Rattle.php_parse_body.proofs.Fails.{between}
 use Rattle.php_parse_body.proofs.Trails.{computed_opens, computed_reads, computed_unclosed, computed_spans}
 use Rattle.php_parse_body.proofs.reader.Reader.computed.Goals as goal

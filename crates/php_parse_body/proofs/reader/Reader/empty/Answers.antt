@@ -1,5 +1,5 @@
 use Rattle.std.proofs.Common.{refl, arith}
-use Rattle.php_ast.specs.Tree.{emptiness, enclosed}
+use Rattle.php_ast.specs.expression.Tree.{emptiness, enclosed}
 use Rattle.php_parse_body.proofs.Productions.{empty_opens, enclosed_reads, enclosed_unclosed, enclosed_spans}
 use Rattle.php_parse_body.proofs.reader.Reader.empty.Goals as goal
 

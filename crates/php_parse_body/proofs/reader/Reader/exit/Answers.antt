@@ -1,8 +1,8 @@
 use Rattle.std.proofs.Common.{◌+◌, refl, arith, ap, ◌∙◌}
 use Rattle.std.proofs.lemmas.Result.{err_from_is_err_and}
-use Rattle.php_ast.specs.Machine.{enclosed_open}
+use Rattle.php_grammar.specs.expression.Machine.{enclosed_open}
 use Rattle.php_parse_body.proofs.Fails.{between}
-use Rattle.php_ast.specs.Tree.{exiting, enclosed, exit, exit_empty}
+use Rattle.php_ast.specs.expression.Tree.{exiting, enclosed, exit, exit_empty}
 use Rattle.php_parse_body.proofs.Productions.{exit_reads, exit_opens, exit_empty_reads, exit_empty_halts, enclosed_reads, enclosed_unclosed, enclosed_spans}
 use Rattle.php_parse_body.proofs.reader.Reader.exit.Goals as goal
 

@@ -2,15 +2,15 @@ use Rattle.std.proofs.Common.{arith, ap}
 use Rattle.std.proofs.lemmas.Result.{err_from_is_err_and}
 use Rattle.php_parse_body.proofs.Fails.{later}
 use Rattle.php_lex.specs.Token.{token_at}
-use Rattle.php_ast.specs.Placed.{noted_steps, notes_of}
-use Rattle.php_ast.specs.Tree.{class_found, from}
-use Rattle.php_ast.specs.View.{steps_from}
-use Rattle.php_ast.specs.Machine.{past_class}
+use Rattle.php_ast.specs.expression.Placed.{noted_steps, notes_of}
+use Rattle.php_ast.specs.expression.Tree.{class_found, from}
+use Rattle.php_ast.specs.expression.View.{steps_from}
+use Rattle.php_grammar.specs.expression.Machine.{past_class}
 use Rattle.php_parse_body.proofs.Moves.{leads}
 use Rattle.php_parse_body.proofs.Makes.{class_reads, steps_more, from_shown}
 use Rattle.std.proofs.Common.{map}
 use Rattle.php_parse_body.specs.Parts.{step_parts}
-use Rattle.php_ast.specs.PrintParts.{step_with}
+use Rattle.php_ast.specs.expression.Parts.{step_with}
 use Rattle.php_parse_body.specs.Flat.{shape, step_flat, are_flat_steps}
 use Rattle.php_parse_body.proofs.Flats.{all_push}
 use Rattle.php_parse_body.proofs.reader.Reader.found_class.Goals as goal

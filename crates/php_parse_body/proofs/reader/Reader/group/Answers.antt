@@ -1,5 +1,5 @@
 use Rattle.std.proofs.Common.{refl, arith}
-use Rattle.php_ast.specs.Tree.{parentheses, enclosed}
+use Rattle.php_ast.specs.expression.Tree.{parentheses, enclosed}
 use Rattle.php_parse_body.proofs.Productions.{group_opens, enclosed_reads, enclosed_unclosed, enclosed_spans}
 use Rattle.php_parse_body.proofs.reader.Reader.group.Goals as goal
 

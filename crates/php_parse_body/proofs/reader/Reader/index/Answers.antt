@@ -1,7 +1,7 @@
 use Rattle.std.proofs.Common.{◌+◌, refl, arith}
 use Rattle.std.proofs.lemmas.Result.{err_from_is_err_and}
-use Rattle.php_ast.specs.Tree.{append, index}
-use Rattle.php_ast.specs.Machine.{index_open}
+use Rattle.php_ast.specs.expression.Tree.{append, index}
+use Rattle.php_grammar.specs.expression.Machine.{index_open}
 use Rattle.php_parse_body.proofs.Fails.{between}
 use Rattle.php_parse_body.proofs.Trails.{append_reads, append_halts, index_opens, index_reads, index_unclosed, index_spans}
 use Rattle.php_parse_body.proofs.reader.Reader.index.Goals as goal

@@ -1,8 +1,8 @@
 use Rattle.std.proofs.Common.{◌+◌, refl, arith}
 use Rattle.std.proofs.lemmas.Result.{err_from_is_err_and}
 use Rattle.php_parse_body.proofs.Fails.{between}
-use Rattle.php_ast.specs.Tree.{step_index}
-use Rattle.php_ast.specs.Machine.{step_open}
+use Rattle.php_ast.specs.expression.Tree.{step_index}
+use Rattle.php_grammar.specs.expression.Machine.{step_open}
 use Rattle.php_parse_body.proofs.Makes.{step_opens, step_index_reads, step_index_unclosed, step_index_shown}
 use Rattle.php_parse_body.proofs.reader.Reader.index_step.Goals as goal
 

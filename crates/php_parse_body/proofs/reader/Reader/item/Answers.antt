@@ -2,9 +2,9 @@ use Rattle.std.proofs.Common.{◌∷◌}
 use Rattle.std.proofs.Common.{◌+◌, ◌∙◌, refl, arith, ap}
 use Rattle.std.proofs.lemmas.Result.{err_from_is_err_and}
 use Rattle.php_parse_body.proofs.Fails.{between}
-use Rattle.php_ast.specs.Tree.{and, plain, reference, array}
-use Rattle.php_ast.specs.Placed.{noted, notes_of}
-use Rattle.php_ast.specs.Machine.{of_list, holds, items_open}
+use Rattle.php_ast.specs.expression.Tree.{and, plain, reference, array}
+use Rattle.php_ast.specs.expression.Placed.{noted, notes_of}
+use Rattle.php_grammar.specs.expression.Machine.{of_list, holds, items_open}
 use Rattle.php_parse_body.proofs.Moves.{leads}
 use Rattle.php_parse_body.proofs.Listings.{reference_opens, reference_halts, item_opens, item_in, key_reads}
 use Rattle.php_parse_body.proofs.ListNotes.{item_keyed}

@@ -2,17 +2,17 @@ use Rattle.std.proofs.Common.{◌∷◌}
 use Rattle.std.proofs.Common.{◌∙◌, refl, arith, ap, sym}
 use Rattle.std.proofs.lemmas.Result.{err_from_is_err_and}
 use Rattle.php_parse_body.proofs.Fails.{later}
-use Rattle.php_ast.specs.Sign.{closes}
-use Rattle.php_ast.specs.Tree.{none, and, skip, array}
-use Rattle.php_ast.specs.Machine.{holds, past_items, items_open, of_list, ended_items}
+use Rattle.php_grammar.specs.expression.Sign.{closes}
+use Rattle.php_ast.specs.expression.Tree.{none, and, skip, array}
+use Rattle.php_grammar.specs.expression.Machine.{holds, past_items, items_open, of_list, ended_items}
 use Rattle.php_parse_body.proofs.Moves.{leads, leads_halts}
 use Rattle.php_parse_body.proofs.Listings.{comma_reads, array_reads, item_unclosed, missing_reads, missing_halts, end_reads, end_halts}
 use Rattle.php_parse_body.proofs.ListNotes.{items_more, items_skip, ended_spans, grown_some, shut_array}
 use Rattle.std.proofs.Common.{map}
-use Rattle.php_ast.specs.View.{items_from}
+use Rattle.php_ast.specs.expression.View.{items_from}
 use Rattle.php_parse_body.specs.Parts.{item_parts}
 use Rattle.php_parse_body.specs.ListAnswer.{no_items}
-use Rattle.php_ast.specs.PrintParts.{item_with}
+use Rattle.php_ast.specs.expression.Parts.{item_with}
 use Rattle.php_parse_body.specs.Flat.{shape, item_flat, are_flat_items}
 use Rattle.php_parse_body.proofs.Flats.{all_push, ended_flat}
 use Rattle.php_parse_body.proofs.reader.Reader.items.Goals as goal

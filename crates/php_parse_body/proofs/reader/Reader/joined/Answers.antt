@@ -1,6 +1,6 @@
 use Rattle.std.proofs.Common.{refl, arith}
 use Rattle.std.proofs.lemmas.Result.{err_from_is_err_and}
-use Rattle.php_ast.specs.Machine.{binary_open}
+use Rattle.php_grammar.specs.expression.Machine.{binary_open}
 use Rattle.php_parse_body.proofs.Joins.{binary_opens, binary_spans}
 use Rattle.php_parse_body.proofs.reader.Reader.joined.Goals as goal
 

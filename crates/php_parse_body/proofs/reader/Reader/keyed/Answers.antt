@@ -1,10 +1,10 @@
 use Rattle.std.proofs.Common.{◌+◌, ◌∙◌, refl, arith, ap}
 use Rattle.std.proofs.lemmas.Result.{err_from_is_err_and}
 use Rattle.php_parse_body.proofs.Fails.{between}
-use Rattle.php_ast.specs.View.{view}
-use Rattle.php_ast.specs.Tree.{and, keyed, keyed_reference, array}
-use Rattle.php_ast.specs.Placed.{noted, notes_of}
-use Rattle.php_ast.specs.Machine.{of_list, items_open}
+use Rattle.php_ast.specs.expression.View.{view}
+use Rattle.php_ast.specs.expression.Tree.{and, keyed, keyed_reference, array}
+use Rattle.php_ast.specs.expression.Placed.{noted, notes_of}
+use Rattle.php_grammar.specs.expression.Machine.{of_list, items_open}
 use Rattle.php_parse_body.proofs.Enters.{value_enters}
 use Rattle.php_parse_body.proofs.Listings.{keyed_reference_opens, item_in}
 use Rattle.php_parse_body.proofs.Flats.{both}

@@ -1,8 +1,8 @@
 use Rattle.std.proofs.Common.{◌+◌, refl, arith}
 use Rattle.std.proofs.lemmas.Result.{err_from_is_err_and}
 use Rattle.php_parse_body.proofs.Fails.{later}
-use Rattle.php_ast.specs.Tree.{new, new_with, none}
-use Rattle.php_ast.specs.Machine.{past_new, past_class, past_items, of_new}
+use Rattle.php_ast.specs.expression.Tree.{new, new_with, none}
+use Rattle.php_grammar.specs.expression.Machine.{past_new, past_class, past_items, of_new}
 use Rattle.php_parse_body.proofs.Moves.{leads}
 use Rattle.php_parse_body.proofs.Enters.{class_ends}
 use Rattle.php_parse_body.proofs.Makes.{new_begins, class_applies, new_spans, new_with_spans}

@@ -1,16 +1,16 @@
 use Rattle.std.proofs.Common.{◌∙◌, arith, ap, sym}
 use Rattle.std.proofs.lemmas.Result.{err_from_is_err_and}
 use Rattle.php_parse_body.proofs.Fails.{later}
-use Rattle.php_ast.specs.Machine.{after, holds}
-use Rattle.php_ast.specs.View.{view}
+use Rattle.php_grammar.specs.expression.Machine.{after, holds}
+use Rattle.php_ast.specs.expression.View.{view}
 use Rattle.php_parse_body.proofs.Moves.{leads}
 use Rattle.php_parse_body.proofs.Trails.{suffix_more, leaf_after}
 use Rattle.std.proofs.Common.{map, subst}
-use Rattle.php_ast.specs.View.{with_suffixes}
+use Rattle.php_ast.specs.expression.View.{with_suffixes}
 use Rattle.php_parse_body.specs.Parts.{suffix_parts}
 use Rattle.php_parse_body.specs.Walk.{Rests}
 use Rattle.php_parse_body.specs.Seen.{rest}
-use Rattle.php_ast.specs.PrintParts.{suffix_with}
+use Rattle.php_ast.specs.expression.Parts.{suffix_with}
 use Rattle.php_parse_body.specs.Flat.{shape, suffix_flat, are_flat_suffixes}
 use Rattle.php_parse_body.proofs.Flats.{all_push}
 use Rattle.php_parse_body.proofs.reader.Reader.operand.Goals as goal

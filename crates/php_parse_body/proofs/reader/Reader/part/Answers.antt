@@ -1,8 +1,8 @@
 use Rattle.std.proofs.Common.{◌+◌, refl, arith, ap}
 use Rattle.std.proofs.lemmas.Result.{err_from_is_err_and}
 use Rattle.php_parse_body.proofs.Fails.{between}
-use Rattle.php_ast.specs.Tree as tree
-use Rattle.php_ast.specs.Machine.{part_open}
+use Rattle.php_ast.specs.expression.Tree as tree
+use Rattle.php_grammar.specs.expression.Machine.{part_open}
 use Rattle.php_parse_body.proofs.Makes.{part_opens, part_reads, part_unclosed}
 use Rattle.php_parse_body.proofs.reader.Reader.part.Goals as goal
 

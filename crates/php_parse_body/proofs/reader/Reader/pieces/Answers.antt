@@ -1,14 +1,14 @@
 use Rattle.std.proofs.Common.{refl, arith, ap}
 use Rattle.std.proofs.lemmas.Result.{err_from_is_err_and}
 use Rattle.php_parse_body.proofs.Fails.{later}
-use Rattle.php_ast.specs.Tree.{no_piece, bytes, value}
-use Rattle.php_ast.specs.Machine.{past_template}
+use Rattle.php_ast.specs.expression.Tree.{no_piece, bytes, value}
+use Rattle.php_grammar.specs.expression.Machine.{past_template}
 use Rattle.php_parse_body.proofs.Moves.{leads, leads_halts}
 use Rattle.php_parse_body.proofs.Makes.{bytes_read, bytes_more, parts_more, template_reads, template_halts}
 use Rattle.std.proofs.Common.{map}
-use Rattle.php_ast.specs.View.{pieces_from}
+use Rattle.php_ast.specs.expression.View.{pieces_from}
 use Rattle.php_parse_body.specs.Parts.{piece_parts}
-use Rattle.php_ast.specs.PrintParts.{piece_with}
+use Rattle.php_ast.specs.expression.Parts.{piece_with}
 use Rattle.php_parse_body.specs.Flat.{shape, piece_flat, are_flat_pieces}
 use Rattle.php_parse_body.proofs.Flats.{all_push}
 use Rattle.php_parse_body.proofs.reader.Reader.pieces.Goals as goal

@@ -2,11 +2,11 @@ use Rattle.std.proofs.Common.{◌∙◌, refl, arith, ap}
 use Rattle.std.proofs.lemmas.Result.{err_from_is_err_and}
 use Rattle.php_parse_body.proofs.Fails.{fewer}
 use Rattle.php_lex.specs.Token.{token_at}
-use Rattle.php_ast.specs.Sign.{counts}
-use Rattle.php_ast.specs.Tree.{counted}
-use Rattle.php_ast.specs.Machine.{holds, after, expects}
+use Rattle.php_grammar.specs.expression.Sign.{counts}
+use Rattle.php_ast.specs.expression.Tree.{counted}
+use Rattle.php_grammar.specs.expression.Machine.{holds, after, expects}
 use Rattle.php_parse_body.specs.Seen.{rest}
-use Rattle.php_ast.proofs.Trees.{open_by_ends}
+use Rattle.php_grammar.proofs.expression.Trees.{open_by_ends}
 use Rattle.php_parse_body.specs.SignView.{opening_view}
 use Rattle.php_parse_body.proofs.Moves.{leads, weaken, settle, draw}
 use Rattle.php_parse_body.proofs.Founds.{behind, static_alone}

@@ -1,9 +1,9 @@
 use Rattle.std.proofs.Common.{◌+◌, ◌-◌, refl, arith, inr}
 use Rattle.std.proofs.lemmas.Result.{err_from_is_err_and}
 use Rattle.php_parse_body.proofs.Fails.{within}
-use Rattle.php_ast.specs.Tree.{prefix}
-use Rattle.php_ast.specs.Machine.{prefix_open}
-use Rattle.php_ast.proofs.Fill.{prefix_bound}
+use Rattle.php_ast.specs.expression.Tree.{prefix}
+use Rattle.php_grammar.specs.expression.Machine.{prefix_open}
+use Rattle.php_grammar.proofs.expression.Fill.{prefix_bound}
 use Rattle.php_parse_body.proofs.Joins.{operator_reads, operator_rests, prefix_opens, prefix_spans}
 use Rattle.php_parse_body.proofs.reader.Reader.prefix.Goals as goal
 

@@ -2,15 +2,15 @@ use Rattle.std.proofs.Common.{◌∷◌}
 use Rattle.std.proofs.Common.{refl, arith, ap}
 use Rattle.std.proofs.lemmas.Result.{err_from_is_err_and}
 use Rattle.php_parse_body.proofs.Fails.{later}
-use Rattle.php_ast.specs.Tree.{none, and}
-use Rattle.php_ast.specs.Machine.{holds, past_items, items_open}
+use Rattle.php_ast.specs.expression.Tree.{none, and}
+use Rattle.php_grammar.specs.expression.Machine.{holds, past_items, items_open}
 use Rattle.php_parse_body.proofs.Moves.{leads, leads_halts}
 use Rattle.php_parse_body.proofs.Listings.{comma_reads, paren_reads, item_unclosed, paren_halts, arguments_paren, arguments_no_array}
 use Rattle.php_parse_body.proofs.ListNotes.{arguments_more}
 use Rattle.std.proofs.Common.{map}
-use Rattle.php_ast.specs.View.{arguments_from}
+use Rattle.php_ast.specs.expression.View.{arguments_from}
 use Rattle.php_parse_body.specs.Parts.{argument_parts}
-use Rattle.php_ast.specs.PrintParts.{argument_with}
+use Rattle.php_ast.specs.expression.Parts.{argument_with}
 use Rattle.php_parse_body.specs.Flat.{shape, argument_flat, are_flat_arguments}
 use Rattle.php_parse_body.proofs.Flats.{all_push}
 use Rattle.php_parse_body.proofs.reader.Reader.some_arguments.Goals as goal

@@ -1,8 +1,8 @@
 use Rattle.std.proofs.Common.{◌+◌, refl, arith}
 use Rattle.std.proofs.lemmas.Result.{err_from_is_err_and}
 use Rattle.php_parse_body.proofs.Fails.{later}
-use Rattle.php_ast.specs.Tree.{no_piece, template}
-use Rattle.php_ast.specs.Machine.{past_template}
+use Rattle.php_ast.specs.expression.Tree.{no_piece, template}
+use Rattle.php_grammar.specs.expression.Machine.{past_template}
 use Rattle.php_parse_body.proofs.Moves.{leads}
 use Rattle.php_parse_body.proofs.Makes.{quote_begins, template_spans}
 use Rattle.php_parse_body.proofs.reader.Reader.template.Goals as goal

@@ -1,9 +1,9 @@
 use Rattle.std.proofs.Common.{◌+◌, ◌-◌, ◌∙◌, refl, ap, arith, inr}
 use Rattle.std.proofs.lemmas.Result.{err_from_is_err_and}
-use Rattle.php_ast.specs.Proper.{edge, right}
-use Rattle.php_ast.specs.Tree.{binary}
-use Rattle.php_ast.proofs.Fill.{binary_bound}
-use Rattle.php_ast.specs.Machine.{binary_open}
+use Rattle.php_ast.specs.expression.Proper.{edge, right}
+use Rattle.php_ast.specs.expression.Tree.{binary}
+use Rattle.php_grammar.proofs.expression.Fill.{binary_bound}
+use Rattle.php_grammar.specs.expression.Machine.{binary_open}
 use Rattle.php_parse_body.proofs.Fails.{within}
 use Rattle.php_parse_body.proofs.Joins.{operator_reads, operator_rests, binary_opens, binary_spans, right_bounds}
 use Rattle.php_parse_body.proofs.reader.Reader.to_right.Goals as goal

@@ -2,13 +2,13 @@ use Rattle.std.proofs.Common.{◌∷◌}
 use Rattle.std.proofs.Common.{refl, arith, ap}
 use Rattle.std.proofs.lemmas.Result.{err_from_is_err_and}
 use Rattle.php_parse_body.proofs.Fails.{later, between}
-use Rattle.php_ast.specs.Tree.{none, and, plain, isset}
-use Rattle.php_ast.specs.Machine.{holds, past_items, items_open, of_list}
+use Rattle.php_ast.specs.expression.Tree.{none, and, plain, isset}
+use Rattle.php_grammar.specs.expression.Machine.{holds, past_items, items_open, of_list}
 use Rattle.php_parse_body.proofs.Moves.{leads, leads_halts}
 use Rattle.php_parse_body.proofs.Listings.{value_opens, item_in, comma_reads, paren_reads, item_unclosed}
 use Rattle.php_parse_body.proofs.ListNotes.{values_more}
 use Rattle.std.proofs.Common.{map}
-use Rattle.php_ast.specs.View.{view, values_from}
+use Rattle.php_ast.specs.expression.View.{view, values_from}
 use Rattle.php_parse_body.specs.Flat.{Shape, shape, are_flat}
 use Rattle.php_parse_body.proofs.Flats.{all_push}
 use Rattle.php_parse_body.proofs.reader.Reader.values.Goals as goal

@@ -1,8 +1,8 @@
 use Rattle.std.proofs.Common.{◌+◌, ◌-◌, refl, arith, inr}
 use Rattle.std.proofs.lemmas.Result.{err_from_is_err_and}
 use Rattle.php_parse_body.proofs.Fails.{within}
-use Rattle.php_ast.specs.Tree.{yield_pair}
-use Rattle.php_ast.specs.Machine.{yield_value_open}
+use Rattle.php_ast.specs.expression.Tree.{yield_pair}
+use Rattle.php_grammar.specs.expression.Machine.{yield_value_open}
 use Rattle.php_parse_body.proofs.Joins.{operator_reads, operator_rests, pair_opens, pair_spans}
 use Rattle.php_parse_body.proofs.reader.Reader.yield_pair.Goals as goal
 

@@ -2,9 +2,9 @@ use Rattle.std.proofs.Common.{◌∷◌}
 use Rattle.std.proofs.Common.{◌+◌, ◌-◌, ◌∙◌, refl, arith, inl, inr, ap, sym}
 use Rattle.std.proofs.lemmas.Result.{err_from_is_err_and}
 use Rattle.php_parse_body.proofs.Fails.{within}
-use Rattle.php_ast.specs.Tree.{yield_nothing, yield_value}
-use Rattle.php_ast.specs.Machine.{yield_open, expects, holds}
-use Rattle.php_ast.specs.Laws.{head_continuation}
+use Rattle.php_ast.specs.expression.Tree.{yield_nothing, yield_value}
+use Rattle.php_grammar.specs.expression.Machine.{yield_open, expects, holds}
+use Rattle.php_grammar.specs.expression.Laws.{head_continuation}
 use Rattle.php_parse_body.specs.Seen.{rest}
 use Rattle.php_parse_body.proofs.Moves.{leads, inside}
 use Rattle.php_parse_body.proofs.Founds.{behind}

@@ -1,5 +1,0 @@
-use Rattle.php_ast.proofs.MemberBack.{members_read_back}
-use Rattle.php_ast.proofs.laws.reads_members_back.Goals as goal
-
-pub returns : goal.returns
-returns c = members_read_back

@@ -1,5 +1,0 @@
-use Rattle.php_ast.proofs.Sizes.{spell_length}
-use Rattle.php_ast.proofs.laws.sizes_agree.Goals as goal
-
-pub returns : goal.returns
-returns c = λ e w. spell_length e w

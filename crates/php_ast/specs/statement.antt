@@ -1,0 +1,6 @@
+pub mod Tree
+pub mod Spelling
+pub mod Proper
+pub mod Nesting
+pub mod Placed
+pub mod View

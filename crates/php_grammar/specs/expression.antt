@@ -1,0 +1,5 @@
+pub mod Sign
+pub mod Machine
+pub mod Depth
+pub mod Laws
+pub mod Rules

@@ -1,0 +1,4 @@
+// The grammar read from left to right: a machine of open forms, and the laws that join it to the spelling of trees.
+#![tactic(auto)]
+
+pub mod laws;

@@ -1,0 +1,4 @@
+pub mod Print
+pub mod expression
+pub mod statement
+pub mod declaration
