@@ -2,10 +2,12 @@
 #![tactic(auto)]
 
 mod answer;
+mod limits;
 mod message;
 mod report;
 mod run;
-mod script;
+mod status;
+mod today;
 mod words;
 
 pub use report::{Kind, Refusal, Report};
