@@ -12,6 +12,3 @@ mod words;
 
 pub use report::{Kind, Refusal, Report};
 pub use run::run_php;
-
-#[cfg(test)]
-mod tests;
