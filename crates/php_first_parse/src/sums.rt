@@ -13,18 +13,18 @@ use std::alloc::Global;
 
 /// What was read, and the place behind it.
 #[derive(Drop)]
-pub struct Read<T> {
+pub(crate) struct Read<T> {
     pub tree: T,
     pub next: usize,
 }
 
-pub fn token_at(tokens: &[Token], at: usize) -> Option<Token>
+pub(crate) fn token_at(tokens: &[Token], at: usize) -> Option<Token>
     ensures { answer.Sees tokens.now at result }
 {
     tokens.get(at).copied()
 }
 
-pub fn lexeme_at(tokens: &[Token], at: usize) -> Option<Lexeme>
+pub(crate) fn lexeme_at(tokens: &[Token], at: usize) -> Option<Lexeme>
     ensures { answer.Shows tokens.now at result }
 {
     match token_at(tokens, at) {
@@ -33,7 +33,7 @@ pub fn lexeme_at(tokens: &[Token], at: usize) -> Option<Lexeme>
     }
 }
 
-pub fn sees(tokens: &[Token], at: usize, lexeme: Lexeme) -> bool
+pub(crate) fn sees(tokens: &[Token], at: usize, lexeme: Lexeme) -> bool
     ensures yes { result ≡ true → answer.Stands tokens.now at lexeme }
     ensures no { result ≡ false → answer.HeadIsNot lexeme (drop at tokens.now) }
 {
@@ -142,7 +142,7 @@ fn product(
 
 /// The sum that begins at a place, with at most `depth` parentheses open at once.
 #[cycle(sums)]
-pub fn sum(
+pub(crate) fn sum(
     alloc: Global,
     tokens: &[Token],
     at: usize,

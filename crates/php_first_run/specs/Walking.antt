@@ -1,34 +1,12 @@
 -- What a walk over statements or parts leaves of a sink, held against what is to be written.
-use Rattle.std.specs.Prelude.{◌≡◌, ℕ, ◌≤◌, true, false, List, [], ◌++◌, Option, Some, None}
-use Rattle.php_base.specs.Counts.{Rose}
-use Rattle.php_base.specs.Written.{GrewBy}
+use Rattle.std.specs.Prelude.{◌≡◌, ℕ, ◌≤◌, true, false, List, [], Option, Some, None}
+use Rattle.php_base.specs.Streams.{Stream, AllWritten, BrokenOff}
 use Rattle.php_first_run.specs.Running.{Effect, Outcome, Ending, completed, overflowed, cut_off}
 use Rattle.php_first_run.specs.declared.value.Value.{Value}
 use Rattle.php_first_run.specs.declared.walking.Stop.{Stop}
 use Rattle.php_first_run.specs.declared.walking.Stop.TheVariants.{Done, Overflow, Cut, SinkFault}
 use Rattle.php_first_run.specs.declared.walking.Step as Step
 use Rattle.php_first_run.specs.declared.walking.Step.TheVariants as step
-
--- a sink at one moment: what it tells of what was written, and its count of faults
-pub record Stream : Type 0 where
-  pub written : Option (List ℕ)
-  pub faults : ℕ
-
--- the bytes begin with these
-abbrev pub IsFront : List ℕ → List ℕ → Type 0
-IsFront front bytes = (rest : List ℕ) × (front ++ rest ≡ bytes)
-
--- all of the bytes went out, and the sink did not fail
-pub record AllWritten (bytes : List ℕ) (old new : Stream) : Type 0 where
-  pub grew : GrewBy old.written new.written bytes
-  pub no_fault : new.faults ≡ old.faults
-
--- the sink failed, and bytes from the front of those went out
-pub record BrokenOff (bytes : List ℕ) (old new : Stream) : Type 0 where
-  pub fault : Rose old.faults new.faults
-  pub front : List ℕ
-  pub is_front : IsFront front bytes
-  pub grew : GrewBy old.written new.written front
 
 -- A part of a statement was written, or it overflowed and nothing was, or the sink failed in it.
 abbrev pub Writes : Option (List ℕ) → Step.Step → Stream → Stream → Type 0

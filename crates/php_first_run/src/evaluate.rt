@@ -80,7 +80,7 @@ fn evaluate_product(alloc: Global, values: &[Value], product: &Product<Atom>) ->
 
 /// The value of a sum over the values of the variables. `None` is an overflow.
 #[cycle(sums)]
-pub fn evaluate(alloc: Global, values: &[Value], sum: &Sum<Atom>) -> Option<Value>
+pub(crate) fn evaluate(alloc: Global, values: &[Value], sum: &Sum<Atom>) -> Option<Value>
     ensures { result ≡ evaluated values.now (sum_view sum.now) }
 {
     let mut value = evaluate_product(alloc, values, &sum.first);

@@ -1,4 +1,5 @@
 ghost use Rattle.std.specs.Prelude.{◌≡◌, map, Some};
+ghost use Rattle.php_base.specs.Streams.{stream_of};
 ghost use Rattle.php_first_tree.specs.Expression.{command_view, part_view, statement_view, sum_view};
 ghost use Rattle.php_first_run.specs.Evaluation.{evaluated};
 ghost use Rattle.php_first_run.specs.Running.{assigned, echoed, part_text, run, step, takes_tick, text_at, text_of, texts_of};
@@ -42,7 +43,7 @@ enum Step {
 
 fn emit<O: Sink>(out: &mut O, bytes: &[u8]) -> Step
     ensures { Writes (Some bytes.now) result
-        (record { written = O.written out.old; faults = O.faults out.old }) (record { written = O.written out.new; faults = O.faults out.new }) }
+        (stream_of O.written O.faults out.old) (stream_of O.written O.faults out.new) }
 {
     match put_all(out, bytes) {
         Ok(()) => Step::Done,
@@ -52,7 +53,7 @@ fn emit<O: Sink>(out: &mut O, bytes: &[u8]) -> Step
 
 fn write_value<O: Sink>(out: &mut O, value: Value) -> Step
     ensures { Writes (Some (text_of value)) result
-        (record { written = O.written out.old; faults = O.faults out.old }) (record { written = O.written out.new; faults = O.faults out.new }) }
+        (stream_of O.written O.faults out.old) (stream_of O.written O.faults out.new) }
 {
     match value {
         Value::Null => emit(out, b""),
@@ -82,7 +83,7 @@ fn write_part<O: Sink>(
     out: &mut O,
 ) -> Step
     ensures { Writes (part_text (texts_of tokens.now) values.now (part_view part.now)) result
-        (record { written = O.written out.old; faults = O.faults out.old }) (record { written = O.written out.new; faults = O.faults out.new }) }
+        (stream_of O.written O.faults out.old) (stream_of O.written O.faults out.new) }
 {
     match part {
         Part::Text(at) => emit(out, text(tokens, *at)),
@@ -101,7 +102,7 @@ fn echo<O: Sink>(
     out: &mut O,
 ) -> Step
     ensures { Executes (echoed (texts_of tokens.now) values.now (map part_view parts.now)) result values.now
-        (record { written = O.written out.old; faults = O.faults out.old }) (record { written = O.written out.new; faults = O.faults out.new }) }
+        (stream_of O.written O.faults out.old) (stream_of O.written O.faults out.new) }
 {
     for part in parts {
         match write_part(alloc, tokens, values, part, out) {
@@ -133,7 +134,7 @@ fn execute<O: Sink>(
     out: &mut O,
 ) -> Step
     ensures { Executes (step (texts_of tokens.now) values.old (command_view action.now)) result values.new
-        (record { written = O.written out.old; faults = O.faults out.old }) (record { written = O.written out.new; faults = O.faults out.new }) }
+        (stream_of O.written O.faults out.old) (stream_of O.written O.faults out.new) }
 {
     match action {
         Action::Assign(number, sum) => assign(alloc, values, *number, sum),
@@ -162,7 +163,7 @@ pub fn walk<O: Sink>(
     out: &mut O,
 ) -> Walked
     ensures { Walks (run (texts_of tokens.now) allowance 0 values.old (map statement_view statements.now)) result.stop result.ticks
-        (record { written = O.written out.old; faults = O.faults out.old }) (record { written = O.written out.new; faults = O.faults out.new }) }
+        (stream_of O.written O.faults out.old) (stream_of O.written O.faults out.new) }
 {
     let mut ticks = 0;
     for statement in statements {

@@ -2,3 +2,4 @@ pub mod Digits
 pub mod Parts
 pub mod Shapes
 pub mod Comes
+pub mod Runs

@@ -2,15 +2,12 @@
 use Rattle.std.specs.Prelude.{ℕ, ◌^◌, Bool, false, ◌&&◌, not, ◌==◌, nat_lt, List, [], ◌∷◌, Option, Some, None, codes, if◌then◌else◌}
 use Rattle.std.specs.Str.{bytes_eq}
 use Rattle.php_run.specs.Numerals.{numeral, is_numeral}
+use Rattle.php_run.specs.declared.limits.TheConstants.{DEFAULT_ALLOWANCE}
 
 -- a file to run, and the greatest number of ticks
 pub record Request : Type 0 where
   pub file : List ℕ
   pub allowance : ℕ
-
--- the allowance where none is told
-abbrev pub default_allowance : ℕ
-default_allowance = 1000000000
 
 -- a name of a file isn't empty, and doesn't begin with `-`
 abbrev pub is_file_name : List ℕ → Bool
@@ -25,7 +22,7 @@ is_allowance word = is_numeral word && nat_lt (numeral word) (2 ^ 64)
 abbrev pub shape : List (List ℕ) → Option Request
 shape (command ∷ file ∷ []) =
     if bytes_eq command (codes "run") && is_file_name file
-    then Some (record { file = file; allowance = default_allowance })
+    then Some (record { file = file; allowance = DEFAULT_ALLOWANCE })
     else None
 shape (command ∷ option ∷ number ∷ file ∷ []) =
     if bytes_eq command (codes "run") && bytes_eq option (codes "--steps") && is_allowance number && is_file_name file

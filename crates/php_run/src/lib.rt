@@ -2,14 +2,13 @@
 #![tactic(auto)]
 
 mod answer;
+mod limits;
 mod message;
 mod report;
 mod run;
-mod script;
+mod status;
+mod today;
 mod words;
 
 pub use report::{Kind, Refusal, Report};
 pub use run::run_php;
-
-#[cfg(test)]
-mod tests;

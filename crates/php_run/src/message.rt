@@ -8,7 +8,7 @@ use php_base::{Failed, Sink, put_all};
 
 /// What stands between the fixed parts of a message.
 #[derive(Clone, Copy, Debug)]
-pub enum Middle<'a> {
+pub(crate) enum Middle<'a> {
     Nothing,
     Name(&'a str),
     Line(u32),
@@ -16,7 +16,7 @@ pub enum Middle<'a> {
 
 /// What is written to the error stream: two fixed parts, and what stands between them.
 #[derive(Clone, Copy, Debug)]
-pub struct Message<'a> {
+pub(crate) struct Message<'a> {
     pub before: &'static str,
     pub middle: Middle<'a>,
     pub after: &'static str,
@@ -48,7 +48,7 @@ fn put_between<E: Sink>(
 }
 
 /// Writes the message. It takes no memory.
-pub fn put_message<E: Sink>(err: &mut E, message: &Message) -> Result<(), Failed>
+pub(crate) fn put_message<E: Sink>(err: &mut E, message: &Message) -> Result<(), Failed>
     ensures ok { OnOk result (GrewBy (E.written err.old) (E.written err.new) (bytes_of message.now)) }
     ensures no_fault { OnOk result (E.faults err.new ≡ E.faults err.old) }
     ensures part { OnErr result (GrewByPart (E.written err.old) (E.written err.new) (bytes_of message.now)) }

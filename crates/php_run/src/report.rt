@@ -1,3 +1,6 @@
+ghost use Rattle.std.specs.Prelude.{◌≡◌};
+ghost use Rattle.php_run.specs.Reported.{report_of};
+
 use php_lex::LexFail;
 use php_value::Fault;
 
@@ -45,4 +48,16 @@ pub struct Report {
     pub ticks: u64,
     /// The array entries that were made; scripts have no arrays yet, so 0.
     pub made: u64,
+}
+
+/// The report of a call that ended so and took these ticks.
+pub(crate) fn reported(kind: Kind, ticks: u64) -> Report
+    ensures { result ≡ report_of kind ticks }
+{
+    Report {
+        kind,
+        status: kind.status(),
+        ticks,
+        made: 0,
+    }
 }

@@ -3,13 +3,13 @@ ghost use Rattle.std.specs.List.{list_all};
 ghost use Rattle.php_run.specs.Numerals.{is_digit, is_numeral, numeral};
 ghost use Rattle.php_run.specs.Words.{is_allowance, is_file_name, shape};
 ghost use Rattle.php_run.specs.Asked.{asked};
+ghost use Rattle.php_run.specs.Shown.{wanted};
 
-/// The ticks that a run may take where the words tell no number.
-pub const DEFAULT_ALLOWANCE: u64 = 1_000_000_000;
+use crate::limits::DEFAULT_ALLOWANCE;
 
 /// A file to run, and the greatest number of ticks.
 #[derive(Clone, Copy, Debug)]
-pub struct Request<'a> {
+pub(crate) struct Request<'a> {
     pub file: &'a str,
     pub allowance: u64,
 }
@@ -73,9 +73,9 @@ fn names_file(word: &str) -> bool
 }
 
 /// What the words ask for. `None` where they are no words of the command.
-pub fn requested(words: &Vec<String>) -> Option<Request<'_>>
+pub(crate) fn requested(words: &Vec<String>) -> Option<Request<'_>>
     ensures { MatchOption result (shape (asked words.now.items) ≡ None)
-        (λ r. shape (asked words.now.items) ≡ Some (record { file = r.file.now; allowance = r.allowance })) }
+        (λ r. shape (asked words.now.items) ≡ Some (wanted r)) }
 {
     match words.as_slice() {
         [command, file] => {

@@ -6,7 +6,7 @@ use Rattle.std.proofs.lemmas.List.{append-nil, append_assoc}
 use Rattle.php_first_tree.specs.Expression.{Statement}
 use Rattle.php_first_run.specs.declared.value.Value.{Value}
 use Rattle.php_first_run.specs.Running.{Effect, Outcome, cut_off, followed_by, step, takes_tick, run}
-use Rattle.php_first_run.specs.Walking.{IsFront}
+use Rattle.php_base.specs.Streams.{IsFront}
 
 -- what a statement writes stands before what follows writes
 front_behind : (effect : Effect) (line ticks : ℕ) (first second : Outcome) → IsFront first.output second.output →

@@ -1,3 +1,4 @@
 pub mod Allowances
 pub mod Narrowings
+pub mod Owings
 pub mod Scripts

@@ -9,10 +9,11 @@ ghost use Rattle.php_first_tokens.specs.Lexemes.{AreFirst};
 ghost use Rattle.php_lex.specs.Token as whole;
 ghost use Rattle.php_first_run.specs.declared.value.Value.{Value};
 ghost use Rattle.php_first_run.specs.Running.{cut_off, run};
-ghost use Rattle.php_first_run.specs.Walking.{IsFront};
+ghost use Rattle.php_base.specs.Streams.{IsFront};
 ghost use Rattle.php_run.specs.Words.{Request};
-ghost use Rattle.php_run.specs.Script.{IsScript};
-ghost use Rattle.php_run.specs.Answer.{Answer, run_of, IsOwed};
+ghost use Rattle.php_run.specs.Answer.{Answer};
+ghost use Rattle.php_run.specs.Owed.{IsOwed};
+ghost use Rattle.php_run.specs.Today.{IsScript, run_of};
 
 /// What a run writes with an allowance, it writes with a longer one too, and then perhaps more.
 pub fn longer_allowance_writes_more()

@@ -2,14 +2,11 @@
 #![tactic(auto)]
 
 use php_base::{StdShelf, StdSink, put_all};
-use php_run::run_php;
+use php_run::{Kind, run_php};
 use std::alloc::Global;
 use std::env::Env;
 use std::process::ExitCode;
 use std::{env, io};
-
-/// The status where memory is wanted before the words are known.
-const OUT_OF_MEMORY: u8 = 70;
 
 /// The words after the program's name. Words that are not UTF-8 are no words of the command, so
 /// they count as none.
@@ -35,7 +32,7 @@ fn main(rt: HostRuntime) -> ExitCode {
         Ok(words) => run_php(rt.alloc(), &words, &mut shelf, &mut out, &mut err).status,
         Err(_) => {
             let _ = put_all(&mut err, b"phprun: out of memory\n");
-            OUT_OF_MEMORY
+            Kind::NoMemory.status()
         }
     };
     ExitCode::from(status)

@@ -1,7 +1,8 @@
 use Rattle.std.proofs.Common.{sym, ap, ◌∙◌, drop, map, ◌+◌, Some}
 use Rattle.php_first_tree.specs.Expression.{part_view}
 use Rattle.php_first_run.specs.Running.{Effect, echoed, texts_of}
-use Rattle.php_first_run.proofs.Written.{wrote_broken, wrote_more, echoed-at}
+use Rattle.php_base.proofs.Streams.{wrote_broken, wrote_more}
+use Rattle.php_first_run.proofs.Written.{echoed-at}
 use Rattle.php_first_run.proofs.walking.echo.Goals as goal
 
 pub returns-in-SinkFault : goal.returns-in-SinkFault

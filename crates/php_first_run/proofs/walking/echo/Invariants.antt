@@ -1,4 +1,5 @@
 use Rattle.std.proofs.Common.{map, drop}
+use Rattle.php_base.specs.Streams.{stream_of}
 use Rattle.php_first_tree.specs.Expression.{part_view}
 use Rattle.php_first_run.specs.Running.{echoed, texts_of}
 use Rattle.php_first_run.proofs.Written.{SoFar}
@@ -9,4 +10,4 @@ abbrev pub invariant-loop-part : goal.invariant-loop-part
 invariant-loop-part g l =
     let s = g.O.Sink in
     SoFar (echoed (texts_of l.tokens) l.values (map part_view l.parts)) (echoed (texts_of l.tokens) l.values (map part_view (drop l.part-index l.parts)))
-    (record { written = s.written l.fn.out; faults = s.faults l.fn.out }) (record { written = s.written l.out; faults = s.faults l.out })
+    (stream_of s.written s.faults l.fn.out) (stream_of s.written s.faults l.out)

@@ -1,5 +1,6 @@
 use Rattle.std.proofs.Common.{refl}
-use Rattle.php_first_run.proofs.Written.{part_broken}
+use Rattle.php_base.specs.Streams.{stream_of}
+use Rattle.php_base.proofs.Streams.{part_broken}
 use Rattle.php_first_run.proofs.walking.emit.Goals as goal
 
 pub returns-in-Err : goal.returns-in-Err
@@ -8,7 +9,7 @@ returns-in-Err g c =
       c.args.bytes.now,
       refl,
       part_broken c.args.bytes.now
-          (record { written = s.written c.args.out.now; faults = s.faults c.args.out.now })
-          (record { written = s.written c.put_all.new.sink; faults = s.faults c.put_all.new.sink })
+          (stream_of s.written s.faults c.args.out.now)
+          (stream_of s.written s.faults c.put_all.new.sink)
           c.in-Err.ensures.fault c.in-Err.ensures.part,
     )

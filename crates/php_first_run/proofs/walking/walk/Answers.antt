@@ -2,7 +2,8 @@ use Rattle.std.proofs.Common.{ℕ, ◌≡◌, true, rules, ◌+◌, ◌≤◌, s
 use Rattle.std.proofs.lemmas.Bool.{lt-ltb}
 use Rattle.php_first_tree.specs.Expression.{command_view, statement_view}
 use Rattle.php_first_run.specs.Running.{Outcome, step, run, takes_tick, texts_of}
-use Rattle.php_first_run.proofs.Written.{wrote_broken, wrote_more, run-at, run-on, run-ticks, followed_by-output, followed_by-ticks}
+use Rattle.php_base.proofs.Streams.{wrote_broken, wrote_more}
+use Rattle.php_first_run.proofs.Written.{run-at, run-on, run-ticks, followed_by-output, followed_by-ticks}
 use Rattle.php_first_run.proofs.walking.walk.Goals as goal
 
 pub loop-statement-preserved : goal.loop-statement-preserved

@@ -1,4 +1,5 @@
 use Rattle.std.proofs.Common.{map, drop}
+use Rattle.php_base.specs.Streams.{stream_of}
 use Rattle.php_first_tree.specs.Expression.{statement_view}
 use Rattle.php_first_run.specs.Running.{run, texts_of}
 use Rattle.php_first_run.proofs.Written.{RunSoFar}
@@ -11,5 +12,5 @@ invariant-loop-statement g l =
       so_far : RunSoFar
           (run (texts_of l.tokens) l.allowance 0 l.fn.values (map statement_view l.statements))
           (run (texts_of l.tokens) l.allowance l.ticks l.values (map statement_view (drop l.statement-index l.statements)))
-          (record { written = s.written l.fn.out; faults = s.faults l.fn.out }) (record { written = s.written l.out; faults = s.faults l.out });
+          (stream_of s.written s.faults l.fn.out) (stream_of s.written s.faults l.out);
     }

@@ -3,8 +3,8 @@ use Rattle.std.proofs.lemmas.List.{length-map}
 use Rattle.php_first_tokens.specs.declared.token.Token.{Token}
 use Rattle.php_first_tokens.specs.Lexemes.{names_of}
 use Rattle.php_first_parse.specs.Spelling.{IsSpelling}
-use Rattle.php_run.specs.Script.{permits}
-use Rattle.php_run.proofs.script.read_script.Goals as goal
+use Rattle.php_run.specs.Today.{permits}
+use Rattle.php_run.proofs.today.read_script.Goals as goal
 
 pub returns-in_default-clause-only : goal.returns-in_default-clause-only
 returns-in_default-clause-only c = λ variables statements is.
