@@ -6,6 +6,3 @@ mod token;
 
 pub use narrowing::narrow;
 pub use token::{FirstTokens, Lexeme, Token};
-
-#[cfg(test)]
-mod tests;

@@ -8,6 +8,3 @@ mod summing;
 pub use counting::count_key;
 pub use sorting::sort_by_order;
 pub use summing::add;
-
-#[cfg(test)]
-mod tests;

@@ -36,6 +36,11 @@ impl Plain {
         }
     }
 
+    /// How many entries were made.
+    pub fn made(&self) -> u64 {
+        self.next_serial.saturating_sub(1)
+    }
+
     pub fn get(&self, name: Name) -> Option<u32> {
         for entry in &self.entries {
             if entry.1 == name {
