@@ -1,4 +1,4 @@
-// What the printer shows of trees that no parser gives, so that a row of a table is met by one tree alone.
+// What the printer shows of trees that no parser gives, so that an answer is met by one tree alone.
 
 use crate::printer::print_last;
 use php_ast::{Binary, Class, Expr, Link, Name, Spot, Suffix};
@@ -6,7 +6,6 @@ use php_base::NoMemory;
 use php_value::Text;
 use sqlite_items::{Boxed, Items};
 use std::alloc::{AllocError, Global};
-use std::test::Fail;
 
 const AT: Spot = Spot { place: 0, line: 1 };
 
@@ -48,8 +47,11 @@ fn shown_chain(alloc: Global) -> Result<String, AllocError> {
     print_last(alloc, chain_in_a_chain(alloc)?, 3)
 }
 
-fn shown_creation(alloc: Global) -> Result<String, NoMemory> {
-    Ok(print_last(alloc, creation_with_a_suffix(alloc)?, 3)?)
+fn shown_creation(alloc: Global) -> Result<String, AllocError> {
+    match creation_with_a_suffix(alloc) {
+        Ok(creation) => print_last(alloc, creation, 3),
+        Err(NoMemory) => format!(in alloc; "no memory"),
+    }
 }
 
 fn shown_run(alloc: Global, depth: usize) -> Result<String, AllocError> {
@@ -60,27 +62,14 @@ fn shown_power(alloc: Global) -> Result<String, AllocError> {
     print_last(alloc, power_in_a_run(alloc)?, 2)
 }
 
-#[test]
-fn a_chain_in_a_chain_is_shown(rt: HostRuntime) -> Result<(), Fail> {
-    assert_eq!(rt; shown_chain(rt.alloc())?.as_str(), "<1[]>[]");
-    Ok(())
-}
-
-#[test]
-fn a_creation_with_suffixes_is_shown(rt: HostRuntime) -> Result<(), Fail> {
-    assert_eq!(rt; shown_creation(rt.alloc())?.as_str(), "<new $A>[]");
-    Ok(())
-}
-
-#[test]
-fn a_run_in_a_run_is_shown(rt: HostRuntime) -> Result<(), Fail> {
-    assert_eq!(rt; shown_run(rt.alloc(), 3)?.as_str(), "{{1 + 2} + 2}");
-    assert_eq!(rt; shown_run(rt.alloc(), 2)?.as_str(), "{{.. + ..} + 2}");
-    Ok(())
-}
-
-#[test]
-fn a_run_and_a_binary_operator_differ(rt: HostRuntime) -> Result<(), Fail> {
-    assert_eq!(rt; shown_power(rt.alloc())?.as_str(), "{1 ** 2}");
-    Ok(())
+/// What is shown of the tree with a name.
+pub(crate) fn shown_shape(alloc: Global, name: &str) -> Result<String, AllocError> {
+    match name {
+        "a chain in a chain" => shown_chain(alloc),
+        "a creation with a suffix" => shown_creation(alloc),
+        "a run in a run" => shown_run(alloc, 3),
+        "a run in a run, cut off" => shown_run(alloc, 2),
+        "a power in a run" => shown_power(alloc),
+        _ => format!(in alloc; "no shape"),
+    }
 }
