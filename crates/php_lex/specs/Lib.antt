@@ -4,8 +4,10 @@ pub mod Cut
 pub mod Delimiters
 pub mod Entry
 pub mod Examples
+pub mod Front
 pub mod Heredocs
 pub mod Kept
+pub mod Lines
 pub mod Modes
 pub mod Numbers
 pub mod PieceKept
@@ -13,7 +15,6 @@ pub mod Pieces
 pub mod Punctuators
 pub mod Reading
 pub mod Search
-pub mod Simple
 pub mod Stepping
 pub mod Templates
 pub mod Token

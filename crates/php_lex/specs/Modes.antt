@@ -1,5 +1,5 @@
 -- Where in a script a piece stands: what is open there, the innermost first.
-use Rattle.std.specs.Prelude.{ℕ, List, [], ◌∷◌, Option, Some, None}
+use Rattle.std.specs.Prelude.{ℕ, Bool, true, false, List, [], ◌∷◌, Option, Some, None}
 use Rattle.php_lex.specs.Bytes.{Text}
 
 -- A construct that ends has the line on which it begins.
@@ -19,6 +19,15 @@ pub data Mode : Type 0 where
   member_due : ℕ → Mode
   key_due : ℕ → Mode
   key_read : ℕ → Mode
+
+-- a piece of a script is due: outside the parts of templates, or in one with braces or brackets
+abbrev pub is_in_script : Mode → Bool
+is_in_script script = true
+is_in_script (braces line) = true
+is_in_script block = true
+is_in_script (brackets line) = true
+is_in_script index = true
+is_in_script mode = false
 
 abbrev pub State : Type 0
 State = List Mode

@@ -1,18 +1,20 @@
 // The loop that cuts a script's bytes piece by piece.
 
-ghost use Rattle.std.specs.Prelude.{◌≡◌, ◌⊎◌, ◌<◌, ◌≤◌, ◌+◌, ◌^◌, List, length, OnOk, IfOk, IfErr};
+ghost use Rattle.std.specs.Prelude.{◌≡◌, ◌⊎◌, ◌<◌, ◌≤◌, List, length, OnOk, IfOk, IfErr};
 ghost use Rattle.php_lex.specs.Bytes.{Text};
 ghost use Rattle.php_lex.specs.Cut.{Cuts, Stops};
 ghost use Rattle.php_lex.specs.Entry.{AllWithin};
 ghost use Rattle.php_lex.specs.Modes.{changed};
 ghost use Rattle.php_lex.specs.PieceKept.{change_kept};
 ghost use Rattle.php_lex.specs.Reading as spec;
-ghost use Rattle.php_lex.specs.Stepping.{Steps};
+ghost use Rattle.php_lex.specs.Stepping.{Steps, Took};
 
 use crate::fail::LexFail;
-use crate::modes::{Mode, Modes};
-use crate::pieces::{Change, next_piece};
-use crate::simple::{blanks, simple_piece};
+use crate::front::{Front, look};
+use crate::lines::{first_line, line_behind};
+use crate::modes::{Mode, Modes, is_in_script};
+use crate::pieces::{Change, Found, next_piece};
+use crate::script_pieces::kind_piece;
 use crate::tokens::{Builder, Tokens, put, put_simple};
 use php_base::NoMemory;
 use std::alloc::Global;
@@ -34,19 +36,27 @@ fn make_change<'a>(modes: &mut Modes<'a>, change: Change<'a>) -> Result<(), NoMe
     }
 }
 
-// The line of the byte behind these.
-fn lines_after(line: u32, bytes: &[u8]) -> u32
-    requires { line + length bytes.now < 2 ^ 32 }
-    ensures value { result ≡ spec.lines_after line bytes.now }
-    ensures within { result ≤ line + length bytes.now }
+// Adds the tokens of what was found and makes its change, and answers its length.
+fn take<'a>(
+    found: Found<'a>,
+    modes: &mut Modes<'a>,
+    line: u32,
+    out: &mut Builder<'a>,
+) -> Result<usize, LexFail>
+    requires { AllWithin (length out.old.decoded.items) out.old.entries.items }
+    ensures { Took found.entry line modes.old modes.new out.old out.new result }
 {
-    let mut after = line;
-    for b in bytes {
-        if *b == b'\n' {
-            after += 1;
-        }
-    }
-    after
+    let piece = match found {
+        Ok(piece) => piece,
+        Err(fault) => return Err(fault),
+    };
+    let Ok(()) = put(piece, line, out) else {
+        return Err(LexFail::NoMemory);
+    };
+    let Ok(()) = make_change(modes, piece.change) else {
+        return Err(LexFail::NoMemory);
+    };
+    Ok(piece.len)
 }
 
 // Cuts the piece at the front, and answers its length.
@@ -61,29 +71,19 @@ fn step<'a>(
     ensures { Steps line text.now modes.old modes.new out.old out.new result }
 {
     let mode = modes.mode();
-    if let Mode::Script = mode {
-        let blanks = blanks(text);
-        if blanks > 0 {
-            return Ok(blanks);
-        }
-        if let Some(simple) = simple_piece(line, text) {
+    if !is_in_script(mode) {
+        return take(next_piece(mode, line, text), modes, line, out);
+    }
+    match look(mode, text) {
+        Front::Nothing(len) => Ok(len),
+        Front::Simple(simple) => {
             let Ok(()) = put_simple(simple, line, out) else {
                 return Err(LexFail::NoMemory);
             };
-            return Ok(simple.len);
+            Ok(simple.len)
         }
+        Front::General(kind) => take(kind_piece(kind, mode, line, text), modes, line, out),
     }
-    let piece = match next_piece(mode, line, text) {
-        Ok(piece) => piece,
-        Err(fault) => return Err(fault),
-    };
-    let Ok(()) = put(piece, line, out) else {
-        return Err(LexFail::NoMemory);
-    };
-    let Ok(()) = make_change(modes, piece.change) else {
-        return Err(LexFail::NoMemory);
-    };
-    Ok(piece.len)
 }
 
 /// Cuts a script into tokens, or answers the first fault in it.
@@ -98,15 +98,14 @@ pub fn lex(alloc: Global, src: &[u8]) -> Result<Tokens, LexFail>
     let Ok(()) = modes.enter(Mode::Outside) else {
         return Err(LexFail::NoMemory);
     };
-    let mut line = 1;
+    let mut line = first_line(src);
     let mut at = 0;
     while at < src.len() {
-        let rest = &src[at..];
-        let len = match step(&mut modes, line, rest, &mut out) {
+        let len = match step(&mut modes, line.number, &src[at..], &mut out) {
             Ok(len) => len,
             Err(fault) => return Err(fault),
         };
-        line = lines_after(line, &rest[..len]);
+        line = line_behind(line, src, at, at + len);
         at += len;
     }
     match modes.unclosed() {

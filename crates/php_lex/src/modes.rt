@@ -41,6 +41,16 @@ pub(crate) enum Mode<'a> {
     KeyRead(u32),
 }
 
+/// Whether a piece of a script is due.
+pub(crate) fn is_in_script(mode: Mode) -> bool
+    ensures { result ≡ spec.is_in_script (mode_kept mode.entry) }
+{
+    matches!(
+        mode,
+        Mode::Script | Mode::Braces(_) | Mode::Block | Mode::Brackets(_) | Mode::Index
+    )
+}
+
 fn line_of(mode: Mode) -> Option<u32>
     ensures { result ≡ spec.line_of (mode_kept mode.entry) }
 {

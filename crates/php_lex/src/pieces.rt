@@ -1,7 +1,8 @@
 // Pieces, and the one that stands at the front of a text in each mode.
 
-ghost use Rattle.std.specs.Prelude.{◌≡◌, ◌<◌, length, IfOk};
+ghost use Rattle.std.specs.Prelude.{◌≡◌, ◌<◌, length, IfOk, false};
 ghost use Rattle.php_lex.specs.Kept.{mode_kept};
+ghost use Rattle.php_lex.specs.Modes.{is_in_script};
 ghost use Rattle.php_lex.specs.PieceKept.{Finds, IsPieceOf, piece_kept, change_kept, text_kept};
 ghost use Rattle.php_lex.specs.Pieces as spec;
 
@@ -14,7 +15,6 @@ use crate::part_pieces::{
     brace_end_piece, key_end_piece, key_piece, member_piece, name_end_piece, name_piece,
     subject_piece, template_piece,
 };
-use crate::script_pieces::script_piece;
 
 /// The bytes of which the text of a token is made.
 #[derive(Clone, Copy)]
@@ -173,16 +173,18 @@ fn outside_piece<'a>(text: &'a [u8]) -> Found<'a>
     ))
 }
 
-/// The piece at the front of a text that begins on that line, or the fault there.
+/// The piece at the front of a text that isn't in a script and begins on that line, or the fault there.
 pub(crate) fn next_piece<'a>(mode: Mode<'a>, line: u32, text: &'a [u8]) -> Found<'a>
-    requires { 0 < length text.now }
+    requires some { 0 < length text.now }
+    requires outside { is_in_script (mode_kept mode) ≡ false }
     ensures value { Finds result (spec.piece (mode_kept mode.entry) line text.now) }
     ensures within { IfOk result (λ p. IsPieceOf p.len text.now) }
 {
     match mode {
         Mode::Outside => outside_piece(text),
-        Mode::Script | Mode::Braces(_) | Mode::Block => script_piece(mode, line, text),
-        Mode::Brackets(_) | Mode::Index => script_piece(mode, line, text),
+        Mode::Script | Mode::Braces(_) | Mode::Block | Mode::Brackets(_) | Mode::Index => {
+            unreachable!()
+        }
         Mode::Quotes(begun) => template_piece(Delimiter::Quote, begun, line, text),
         Mode::Heredoc(label, begun) => {
             template_piece(Delimiter::Label(label), begun, line, text)

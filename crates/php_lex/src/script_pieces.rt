@@ -1,26 +1,22 @@
-// Pieces of a script.
+// Pieces of a script that are more than one token, or open or end something, and its faults.
 
-ghost use Rattle.std.specs.Char.{is_ascii_digit};
-ghost use Rattle.std.specs.Prelude.{◌≡◌, ◌<◌, ◌≤◌, length, slice_index, IfOk, true};
-ghost use Rattle.php_lex.specs.Heredocs.{opening, IsWithin};
+ghost use Rattle.std.specs.Prelude.{◌≡◌, ◌<◌, ◌≤◌, length, IfOk, Ok, Some};
+ghost use Rattle.php_lex.specs.Front.{KindWithin, kind_piece as spec_kind_piece};
+ghost use Rattle.php_lex.specs.Heredocs.{IsWithin};
 ghost use Rattle.php_lex.specs.Kept.{mode_kept};
-ghost use Rattle.php_lex.specs.Numbers.{number};
 ghost use Rattle.php_lex.specs.PieceKept.{Finds, IsPieceOf, piece_kept, change_kept};
 ghost use Rattle.php_lex.specs.Pieces as spec;
-ghost use Rattle.php_lex.specs.Punctuators.{punctuator};
-ghost use Rattle.php_lex.specs.Words.{cast};
 
-use crate::bytes::{Class, byte, is_blank, is_name_start, name_len, newline_len, run};
-use crate::comments::{begins_comment, block_end, comment_start_len, line_comment_len, raw_len};
+use crate::bytes::{byte, newline_len};
+use crate::comments::{block_end, raw_len};
 use crate::escapes::{Delimiter, text_len};
 use crate::fail::LexFail;
-use crate::heredocs::{FirstLine, closing_len, is_label_line, nowdoc_len, opening};
+use crate::front::Kind;
+use crate::heredocs::{FirstLine, closing_len, is_label_line, nowdoc_len};
 use crate::kind::{Punct, TokenKind};
 use crate::modes::Mode;
-use crate::numbers::{NumberFault, number};
-use crate::pieces::{Change, Found, Piece, Wording, integer, nothing, one, part_end};
-use crate::punctuators::punctuator;
-use crate::words::{cast, word};
+use crate::numbers::NumberFault;
+use crate::pieces::{Change, Found, Piece, Wording, nothing, one, part_end};
 
 #[tactic(auto, unfolding(crate::specs::Pieces::block_comment))]
 fn block_comment<'a>(line: u32, text: &'a [u8]) -> Found<'a>
@@ -34,20 +30,6 @@ fn block_comment<'a>(line: u32, text: &'a [u8]) -> Found<'a>
     } else {
         Ok(nothing(end + 2, Change::Stay))
     }
-}
-
-#[tactic(auto, unfolding(crate::specs::Pieces::variable))]
-fn variable<'a>(line: u32, text: &'a [u8]) -> Found<'a>
-    requires { 0 < length text.now }
-    ensures value { Finds result (spec.variable line text.now) }
-    ensures within { IfOk result (λ p. IsPieceOf p.len text.now) }
-{
-    let len = name_len(text, 1);
-    if len == 0 {
-        return Err(LexFail::BadByte(line));
-    }
-    let name = Wording::Plain(&text[1..1 + len]);
-    Ok(one(TokenKind::Variable, 1 + len, name, Change::Stay))
 }
 
 // A text in single quotes.
@@ -171,47 +153,21 @@ fn is_part_end(mode: Mode, punct: Punct) -> bool
     matches!((mode, punct), (Mode::Braces(_), Punct::RightBrace))
 }
 
-fn punctuation<'a>(mode: Mode<'a>, line: u32, text: &'a [u8]) -> Found<'a>
-    ensures value { Finds result (spec.sign_piece (mode_kept mode.entry) line text.now (punctuator text.now)) }
-    ensures within { IfOk result (λ p. IsPieceOf p.len text.now) }
+// A punctuator, of which the text consists.
+fn sign_piece<'a>(mode: Mode<'a>, punct: Punct, text: &'a [u8]) -> Piece<'a>
+    ensures value { Ok (piece_kept result) ≡ spec.sign_piece (mode_kept mode.entry) 0 text.now (Some (punct, length text.now)) }
+    ensures len { result.len ≡ length text.now }
 {
-    let Some((punct, len)) = punctuator(text) else {
-        return Err(LexFail::BadByte(line));
-    };
     if is_part_end(mode, punct) {
-        return Ok(part_end(len));
+        return part_end(text.len());
     }
     let change = sign_change(mode, punct);
-    Ok(one(
+    one(
         TokenKind::Punct(punct),
-        len,
-        Wording::Plain(&text[..len]),
+        text.len(),
+        Wording::Plain(text),
         change,
-    ))
-}
-
-fn cast_or_sign<'a>(mode: Mode<'a>, line: u32, text: &'a [u8]) -> Found<'a>
-    requires { 0 < length text.now }
-    ensures value { Finds result (spec.cast_or_sign (mode_kept mode.entry) line text.now (cast text.now)) }
-    ensures within { IfOk result (λ p. IsPieceOf p.len text.now) }
-{
-    match cast(text) {
-        Some((cast, len)) => {
-            let kind = TokenKind::Cast(cast);
-            Ok(one(kind, len, Wording::Plain(&text[..len]), Change::Stay))
-        }
-        None => punctuation(mode, line, text),
-    }
-}
-
-fn heredoc_or_sign<'a>(mode: Mode<'a>, line: u32, text: &'a [u8]) -> Found<'a>
-    ensures value { Finds result (spec.heredoc_or_sign (mode_kept mode.entry) line text.now (opening text.now)) }
-    ensures within { IfOk result (λ p. IsPieceOf p.len text.now) }
-{
-    match opening(text) {
-        Some(first) => labelled(line, text, first),
-        None => punctuation(mode, line, text),
-    }
+    )
 }
 
 fn end_tag<'a>(text: &'a [u8]) -> Piece<'a>
@@ -229,63 +185,31 @@ fn end_tag<'a>(text: &'a [u8]) -> Piece<'a>
     )
 }
 
-// What begins with a sign.
-#[tactic(auto, unfolding(crate::specs::Pieces::sign))]
-fn sign<'a>(mode: Mode<'a>, line: u32, text: &'a [u8]) -> Found<'a>
-    requires { 0 < length text.now }
-    ensures value { Finds result (spec.sign (mode_kept mode.entry) line text.now) }
-    ensures within { IfOk result (λ p. IsPieceOf p.len text.now) }
+fn number_fault(fault: NumberFault, line: u32) -> LexFail
+    ensures { result ≡ spec.number_fault fault line }
 {
-    let next = byte(text, 1);
-    match text[0] {
-        b'\'' => raw(line, text),
-        b'"' => quoted(line, text),
-        b'$' => variable(line, text),
-        b'?' if next == b'>' => Ok(end_tag(text)),
-        b'.' if next.is_ascii_digit() => Err(LexFail::FloatLiteral(line)),
-        b'<' => heredoc_or_sign(mode, line, text),
-        b'(' => cast_or_sign(mode, line, text),
-        _ => punctuation(mode, line, text),
+    match fault {
+        NumberFault::Float => LexFail::FloatLiteral(line),
+        NumberFault::TooLarge => LexFail::IntTooLarge(line),
+        NumberFault::NotOctal => LexFail::BadByte(line),
     }
 }
 
-fn numeral<'a>(line: u32, text: &'a [u8]) -> Found<'a>
-    requires { is_ascii_digit (slice_index text.now 0) ≡ true }
-    ensures value { Finds result (spec.number_piece line (number text.now)) }
+/// The piece of a script that begins so, or the fault there.
+pub(crate) fn kind_piece<'a>(kind: Kind, mode: Mode<'a>, line: u32, text: &'a [u8]) -> Found<'a>
+    requires some { 0 < length text.now }
+    requires within { KindWithin text.now kind }
+    ensures value { Finds result (spec_kind_piece (mode_kept mode.entry) line text.now kind) }
     ensures within { IfOk result (λ p. IsPieceOf p.len text.now) }
 {
-    match number(text) {
-        Ok((len, n)) => Ok(integer(len, n as i64, Change::Stay)),
-        Err(NumberFault::Float) => Err(LexFail::FloatLiteral(line)),
-        Err(NumberFault::TooLarge) => Err(LexFail::IntTooLarge(line)),
-        Err(NumberFault::NotOctal) => Err(LexFail::BadByte(line)),
-    }
-}
-
-/// In a script.
-#[tactic(auto, unfolding(crate::specs::Pieces::script_piece))]
-pub(crate) fn script_piece<'a>(mode: Mode<'a>, line: u32, text: &'a [u8]) -> Found<'a>
-    requires { 0 < length text.now }
-    ensures value { Finds result (spec.script_piece (mode_kept mode.entry) line text.now) }
-    ensures within { IfOk result (λ p. IsPieceOf p.len text.now) }
-{
-    let b = text[0];
-    if is_blank(b) {
-        return Ok(nothing(run(Class::Blank, text, 0), Change::Stay));
-    }
-    if is_name_start(b) {
-        let (kind, len) = word(text);
-        return Ok(one(kind, len, Wording::Plain(&text[..len]), Change::Stay));
-    }
-    if b.is_ascii_digit() {
-        return numeral(line, text);
-    }
-    let comment = comment_start_len(text);
-    if comment > 0 {
-        Ok(nothing(line_comment_len(text, comment), Change::Stay))
-    } else if begins_comment(text) {
-        block_comment(line, text)
-    } else {
-        sign(mode, line, text)
+    match kind {
+        Kind::Sign(punct, len) => Ok(sign_piece(mode, punct, &text[..len])),
+        Kind::Labelled(first) => labelled(line, text, first),
+        Kind::Comment => block_comment(line, text),
+        Kind::Raw => raw(line, text),
+        Kind::Quoted => quoted(line, text),
+        Kind::EndTag => Ok(end_tag(text)),
+        Kind::BadNumber(fault) => Err(number_fault(fault, line)),
+        Kind::BadByte => Err(LexFail::BadByte(line)),
     }
 }

@@ -7,14 +7,14 @@ ghost use Rattle.php_lex.specs.Entry.{AllWithin, Keeps, Adds, tokens_in};
 ghost use Rattle.php_lex.specs.PieceKept.{draft_kept, piece_kept, text_kept};
 ghost use Rattle.php_lex.specs.Reading.{token_if, token_of_draft, tokens_of, on_line};
 ghost use Rattle.php_lex.specs.Pieces.{draft};
-ghost use Rattle.php_lex.specs.Simple.{simple_kept};
+ghost use Rattle.php_lex.specs.Front.{simple_kept};
 ghost use Rattle.php_lex.specs.Token.{token_at, the_token};
 
 use crate::bytes::byte;
 use crate::escapes::push_text;
+use crate::front::Simple;
 use crate::kind::TokenKind;
 use crate::pieces::{Draft, Piece, Wording};
-use crate::simple::Simple;
 use memchr::memchr;
 use php_base::NoMemory;
 use std::alloc::Global;
