@@ -1,7 +1,7 @@
 -- The token of each operator.
-use Rattle.php_lex.specs.declared.kind.Keyword.TheVariants as word
-use Rattle.php_lex.specs.declared.kind.Punct.TheVariants as mark
-use Rattle.php_lex.specs.declared.kind.Cast.TheVariants as to
+use Rattle.php_token.specs.declared.kind.Keyword.TheVariants as word
+use Rattle.php_token.specs.declared.kind.Punct.TheVariants as mark
+use Rattle.php_token.specs.declared.kind.Cast.TheVariants as to
 use Rattle.php_ast.specs.declared.operator.Binary.{Binary}
 use Rattle.php_ast.specs.declared.operator.Binary.TheVariants as binary
 use Rattle.php_ast.specs.declared.operator.Prefix.{Prefix}

@@ -1,12 +1,12 @@
 -- What the grammar sees of a token: its kind, with the text of a name or of bytes, and the value of
 -- an integer. The letter case of a keyword and the blanks in a cast make no difference.
 use Rattle.std.specs.Prelude.{ℕ, ℤ, List}
-use Rattle.php_lex.specs.Token.{Token}
-use Rattle.php_lex.specs.declared.kind.Keyword.{Keyword}
-use Rattle.php_lex.specs.declared.kind.Punct.{Punct}
-use Rattle.php_lex.specs.declared.kind.Cast.{Cast}
-use Rattle.php_lex.specs.declared.kind.TokenKind.{TokenKind}
-use Rattle.php_lex.specs.declared.kind.TokenKind.TheVariants as kind
+use Rattle.php_token.specs.Token.{Token}
+use Rattle.php_token.specs.declared.kind.Keyword.{Keyword}
+use Rattle.php_token.specs.declared.kind.Punct.{Punct}
+use Rattle.php_token.specs.declared.kind.Cast.{Cast}
+use Rattle.php_token.specs.declared.kind.TokenKind.{TokenKind}
+use Rattle.php_token.specs.declared.kind.TokenKind.TheVariants as kind
 
 pub data Symbol : Type 0 where
   inline : List ℕ → Symbol

@@ -1,6 +1,6 @@
 // Where tokens stand, and names with their places.
 
-use php_lex::Keyword;
+use php_token::Keyword;
 use php_value::Text;
 
 /// Where a token stands: its place among the tokens, from 0, and its line, from 1.

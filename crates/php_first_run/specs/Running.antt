@@ -2,7 +2,7 @@
 use Rattle.std.specs.Prelude.{ℕ, ◌+◌, Bool, true, false, nat_lt, List, [], ◌∷◌, ◌++◌, Option, Some, None, option_map, map, slice_index_or, slice_set, if◌then◌else◌}
 use Rattle.std.specs.Fmt.{signed_decimal}
 use Rattle.php_first_tree.specs.Expression.{Part, value, text, Command, assign, echo, inline, empty, Statement}
-use Rattle.php_lex.specs.Token.{Token}
+use Rattle.php_token.specs.Token.{Token}
 use Rattle.php_first_run.specs.declared.value.Value.{Value}
 use Rattle.php_first_run.specs.declared.value.Value.TheVariants.{Null, Int}
 use Rattle.php_first_run.specs.Evaluation.{evaluated}

@@ -7,9 +7,9 @@ use Rattle.std.proofs.lemmas.Bool.{cases_Bool, true≢false}
 use Rattle.std.proofs.lemmas.List.{append-nil, append_assoc, map_push}
 use Rattle.std.proofs.lemmas.Slice.Eq.{bytes_eq-Decides}
 use Rattle.indexmap.specs.IndexSet.{insert_key}
-use Rattle.php_lex.specs.Token as whole
-use Rattle.php_lex.specs.declared.kind.TokenKind.{TokenKind}
-use Rattle.php_lex.specs.declared.kind.TokenKind.TheVariants as kind
+use Rattle.php_token.specs.Token as whole
+use Rattle.php_token.specs.declared.kind.TokenKind.{TokenKind}
+use Rattle.php_token.specs.declared.kind.TokenKind.TheVariants as kind
 use Rattle.php_first_tokens.specs.declared.token.Lexeme.TheVariants.{Variable}
 use Rattle.php_first_tokens.specs.Lexemes.{with_name, number_in, named_by, names_from, names_of, lexeme_of}
 

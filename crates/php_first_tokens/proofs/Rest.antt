@@ -3,8 +3,8 @@ use Rattle.std.proofs.Common.{◌≡◌, ℕ, ◌+◌, ◌<◌, ◌≤◌, List,
 use Rattle.std.specs.Prelude.{option_map}
 use Rattle.std.proofs.lemmas.List.{append-nil, append_assoc, drop_all}
 use Rattle.std.proofs.Math.Seq.{drop-cons}
-use Rattle.php_lex.specs.Token as whole
-use Rattle.php_lex.specs.Token.{token_at, no_token}
+use Rattle.php_token.specs.Token as whole
+use Rattle.php_token.specs.Token.{token_at, no_token}
 use Rattle.php_first_tokens.specs.declared.token.Lexeme.{Lexeme}
 use Rattle.php_first_tokens.specs.declared.token.Token.{Token}
 use Rattle.php_first_tokens.specs.Lexemes.{names_from, named_by, names_in, lexeme_of, put_before, firsts_from, firsts_in}

@@ -3,13 +3,13 @@ use Rattle.std.specs.Prelude.{◌≡◌, ℕ, ◌+◌, List, [], ◌∷◌, ◌+
 use Rattle.std.specs.List.{list_any, position_or_len}
 use Rattle.std.specs.Str.{bytes_eq}
 use Rattle.std.specs.Borrow.{Bor}
-use Rattle.php_lex.specs.Token as whole
-use Rattle.php_lex.specs.declared.kind.TokenKind.{TokenKind}
-use Rattle.php_lex.specs.declared.kind.TokenKind.TheVariants as kind
-use Rattle.php_lex.specs.declared.kind.Keyword.{Keyword}
-use Rattle.php_lex.specs.declared.kind.Keyword.TheVariants as word
-use Rattle.php_lex.specs.declared.kind.Punct.{Punct}
-use Rattle.php_lex.specs.declared.kind.Punct.TheVariants as mark
+use Rattle.php_token.specs.Token as whole
+use Rattle.php_token.specs.declared.kind.TokenKind.{TokenKind}
+use Rattle.php_token.specs.declared.kind.TokenKind.TheVariants as kind
+use Rattle.php_token.specs.declared.kind.Keyword.{Keyword}
+use Rattle.php_token.specs.declared.kind.Keyword.TheVariants as word
+use Rattle.php_token.specs.declared.kind.Punct.{Punct}
+use Rattle.php_token.specs.declared.kind.Punct.TheVariants as mark
 use Rattle.php_first_tokens.specs.declared.token.Lexeme.{Lexeme}
 use Rattle.php_first_tokens.specs.declared.token.Lexeme.TheVariants.{Variable, Int, Text, Inline, Echo, Equals, Semicolon, Comma, Plus, Minus, Star, Open, Close}
 use Rattle.php_first_tokens.specs.declared.token.Token.{Token}

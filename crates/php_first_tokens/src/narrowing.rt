@@ -1,5 +1,5 @@
 ghost use Rattle.std.specs.Prelude.{◌≡◌, ◌<◌, List, length, Some, None, OnOk, IfOk, IfSome, IfNone, IsSomeAnd};
-ghost use Rattle.php_lex.specs.Token.{token_at};
+ghost use Rattle.php_token.specs.Token.{token_at};
 ghost use Rattle.php_first_tokens.specs.declared.token.Token.{Token as TokenMeant};
 ghost use Rattle.php_first_tokens.specs.Lexemes.{AreFirst, lexeme_of, named_by, names_in, names_of, number_in, punctuator, with_name};
 

@@ -2,14 +2,14 @@
 use Rattle.std.proofs.Common.{◌≡◌, ℕ, ◌+◌, ◌<◌, ◌≤◌, List, [], ◌∷◌, ◌++◌, length, drop, take, Result, Ok, Err, refl, sym, ap, ◌∙◌, subst, arith, append_assoc, append-nil, length-append, length-drop, length-take-le, take-append-drop}
 use Rattle.std.proofs.lemmas.List.{drop-drop, take_rest}
 use Rattle.php_lex.specs.declared.fail.LexFail.{LexFail}
-use Rattle.php_lex.specs.Bytes.{Text}
+use Rattle.php_lex_pieces.specs.Bytes.{Text}
 use Rattle.php_lex.specs.Cut.{joined, Stands, Follow, Cuts, NoPiece, Stops}
 use Rattle.php_lex.specs.Modes.{State, start, mode_of, changed}
 use Rattle.php_lex.specs.Pieces.{Piece, piece}
 use Rattle.php_lex.specs.Reading.{tokens_of, lines_after, at_end, put_before, read_from, tokens}
-use Rattle.php_lex.specs.Token.{Token}
+use Rattle.php_token.specs.Token.{Token}
 use Rattle.php_lex.proofs.KeepLemmas.{take_front, drop_front}
-use Rattle.php_lex.proofs.RunLemmas.{part}
+use Rattle.php_lex_pieces.proofs.RunLemmas.{part}
 use Rattle.php_lex.proofs.ReadingLemmas.{put_before-append, put_before-nil, at_front}
 
 -- what the tokens of pieces and those of the rest are together

@@ -6,10 +6,10 @@ use Rattle.memchr.specs.Find.{Nowhere, Passes, is_byte}
 use Rattle.php_lex.specs.declared.tokens.TokenText.{TokenText}
 use Rattle.php_lex.specs.declared.tokens.TokenText.TheVariants.{Plain, Decoded}
 use Rattle.php_lex.specs.declared.tokens.Entry.{Entry}
-use Rattle.php_lex.specs.Bytes.{Text}
-use Rattle.php_lex.specs.Comments.{raw_value}
+use Rattle.php_lex_pieces.specs.Bytes.{Text}
+use Rattle.php_lex_pieces.specs.Comments.{raw_value}
 use Rattle.php_lex.specs.Entry.{text_of, token_of, tokens_in, Within, AllWithin, Keeps, Adds}
-use Rattle.php_lex.specs.Token.{Token}
+use Rattle.php_token.specs.Token.{Token}
 
 -- ---- single quotes
 

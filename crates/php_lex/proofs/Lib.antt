@@ -1,11 +1,5 @@
-pub mod CommentLemmas
 pub mod CutLemmas
 pub mod KeepLemmas
-pub mod KeywordLemmas
 pub mod LineLemmas
-pub mod NumberLemmas
 pub mod ReadingLemmas
-pub mod RunLemmas
 pub mod SteppingLemmas
-pub mod TableLemmas
-pub mod TemplateLemmas

@@ -3,10 +3,10 @@ use Rattle.std.proofs.Common.{◌≡◌, ℕ, zero, suc, ◌+◌, ◌-◌, ◌<�
 use Rattle.std.specs.Prelude.{◌==◌}
 use Rattle.std.proofs.lemmas.List.{drop-drop, length-drop, take_rest}
 use Rattle.memchr.specs.Find.{Nowhere, Passes, is_byte}
-use Rattle.php_lex.specs.Bytes.{Text}
+use Rattle.php_lex_pieces.specs.Bytes.{Text}
 use Rattle.php_lex.specs.Lines.{line_len}
 use Rattle.php_lex.specs.Reading.{line_after, lines_after}
-use Rattle.php_lex.proofs.RunLemmas.{part}
+use Rattle.php_lex_pieces.proofs.RunLemmas.{part}
 
 -- ---- searches
 

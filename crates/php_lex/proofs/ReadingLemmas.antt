@@ -2,12 +2,12 @@
 use Rattle.std.proofs.Common.{◌≡◌, ℕ, zero, suc, ◌+◌, ◌-◌, ◌<◌, ◌≤◌, List, [], ◌∷◌, ◌++◌, length, drop, take, Result, Ok, Err, refl, sym, ap, ◌∙◌, subst, arith, append_assoc}
 use Rattle.std.proofs.lemmas.List.{drop-drop, length-drop, take_rest}
 use Rattle.php_lex.specs.declared.fail.LexFail.{LexFail}
-use Rattle.php_lex.specs.Bytes.{Text}
+use Rattle.php_lex_pieces.specs.Bytes.{Text}
 use Rattle.php_lex.specs.Modes.{State, mode_of, unclosed, changed}
 use Rattle.php_lex.specs.Pieces.{Piece, piece}
 use Rattle.php_lex.specs.Reading.{tokens_of, line_after, lines_after, at_end, put_before, go_on, read_from, tokens}
-use Rattle.php_lex.specs.Token.{Token}
-use Rattle.php_lex.proofs.RunLemmas.{part}
+use Rattle.php_token.specs.Token.{Token}
+use Rattle.php_lex_pieces.proofs.RunLemmas.{part}
 
 -- the bytes that are left of a piece
 read_from-drop : (n : ℕ) (state : State) (line : ℕ) (text : Text) → n ≤ length text → read_from n state line text ≡ read_from 0 state (lines_after line (take n text)) (drop n text)

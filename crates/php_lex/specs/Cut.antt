@@ -2,11 +2,11 @@
 use Rattle.std.specs.Prelude.{◌≡◌, ℕ, ◌<◌, List, [], ◌∷◌, ◌++◌, length, Some, None, Ok, Err}
 use Rattle.php_lex.specs.declared.fail.LexFail.{LexFail}
 use Rattle.php_lex.specs.declared.fail.LexFail.TheVariants.{Unclosed}
-use Rattle.php_lex.specs.Bytes.{Text}
+use Rattle.php_lex_pieces.specs.Bytes.{Text}
 use Rattle.php_lex.specs.Modes.{State, start, mode_of, unclosed, changed}
 use Rattle.php_lex.specs.Pieces.{Piece, piece}
 use Rattle.php_lex.specs.Reading.{tokens_of, lines_after}
-use Rattle.php_lex.specs.Token.{Token}
+use Rattle.php_token.specs.Token.{Token}
 
 -- pieces, one directly behind the other
 abbrev pub joined : List Text → Text

@@ -3,7 +3,7 @@ use Rattle.std.specs.Prelude.{◌≡◌, ℕ, ◌≤◌, List, ◌++◌, length,
 use Rattle.php_lex.specs.declared.tokens.TokenText.{TokenText}
 use Rattle.php_lex.specs.declared.tokens.TokenText.TheVariants.{Plain, Decoded}
 use Rattle.php_lex.specs.declared.tokens.Entry.{Entry}
-use Rattle.php_lex.specs.Token.{Token}
+use Rattle.php_token.specs.Token.{Token}
 
 -- the text, where the bytes made from escapes are these
 abbrev pub text_of : List ℕ → TokenText → List ℕ

@@ -1,23 +1,23 @@
 -- What the definitions say of small texts.
 use Rattle.std.specs.Prelude.{◌≡◌, refl, ℕ, [], ◌∷◌, ◌++◌, Ok, Err, ℤ, pos, negsuc, codes}
 use Rattle.php_lex.specs.declared.fail.LexFail.TheVariants as Fail
-use Rattle.php_lex.specs.declared.kind.TokenKind.{TokenKind}
-use Rattle.php_lex.specs.declared.kind.TokenKind.TheVariants as Kind
-use Rattle.php_lex.specs.declared.kind.Keyword.{Keyword as KeywordType}
-use Rattle.php_lex.specs.declared.kind.Keyword.TheVariants as Keyword
-use Rattle.php_lex.specs.declared.kind.Punct.{Punct as PunctType}
-use Rattle.php_lex.specs.declared.kind.Punct.TheVariants as Punct
-use Rattle.php_lex.specs.declared.kind.Cast.TheVariants as Cast
-use Rattle.php_lex.specs.Bytes.{Text}
+use Rattle.php_token.specs.declared.kind.TokenKind.{TokenKind}
+use Rattle.php_token.specs.declared.kind.TokenKind.TheVariants as Kind
+use Rattle.php_token.specs.declared.kind.Keyword.{Keyword as KeywordType}
+use Rattle.php_token.specs.declared.kind.Keyword.TheVariants as Keyword
+use Rattle.php_token.specs.declared.kind.Punct.{Punct as PunctType}
+use Rattle.php_token.specs.declared.kind.Punct.TheVariants as Punct
+use Rattle.php_token.specs.declared.kind.Cast.TheVariants as Cast
+use Rattle.php_lex_pieces.specs.Bytes.{Text}
 use Rattle.php_lex.specs.Reading.{tokens}
-use Rattle.php_lex.specs.Token.{Token}
+use Rattle.php_token.specs.Token.{Token}
 use Rattle.php_lex.specs.Pieces as Pieces
-use Rattle.php_lex.specs.Words as Words
-use Rattle.php_lex.specs.Numbers as Numbers
-use Rattle.php_lex.specs.Punctuators as Punctuators
-use Rattle.php_lex.specs.Comments as Comments
-use Rattle.php_lex.specs.Heredocs as Heredocs
-use Rattle.php_lex.specs.Templates as Templates
+use Rattle.php_lex_pieces.specs.Words as Words
+use Rattle.php_lex_pieces.specs.Numbers as Numbers
+use Rattle.php_lex_pieces.specs.Punctuators as Punctuators
+use Rattle.php_lex_pieces.specs.Comments as Comments
+use Rattle.php_lex_pieces.specs.Heredocs as Heredocs
+use Rattle.php_lex_pieces.specs.Templates as Templates
 
 abbrev token : TokenKind → Text → ℕ → Token
 token kind text line = record { kind = kind; text = text; int = pos 0; line = line }

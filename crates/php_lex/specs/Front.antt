@@ -6,8 +6,8 @@ use Rattle.php_lex.specs.declared.front.Front.TheVariants.{Nothing, Simple, Gene
 use Rattle.php_lex.specs.declared.front.Kind.{Kind}
 use Rattle.php_lex.specs.declared.front.Kind.TheVariants as Begins
 use Rattle.php_lex.specs.declared.front.Simple.{Simple as SimpleType}
-use Rattle.php_lex.specs.Bytes.{Text}
-use Rattle.php_lex.specs.Heredocs.{IsWithin}
+use Rattle.php_lex_pieces.specs.Bytes.{Text}
+use Rattle.php_lex_pieces.specs.Heredocs.{IsWithin}
 use Rattle.php_lex.specs.Modes.{Mode, stay}
 use Rattle.php_lex.specs.PieceKept.{IsPieceOf}
 use Rattle.php_lex.specs.Pieces.{Piece, Found, nothing, raw, quoted, block_comment, labelled_piece, sign_piece, end_tag, number_fault}

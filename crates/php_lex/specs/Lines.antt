@@ -1,7 +1,7 @@
 -- Where the lines of a text end.
 use Rattle.std.specs.Prelude.{◌≡◌, ℕ, ◌+◌, Bool, ◌==◌, drop, slice_index}
 use Rattle.php_lex.specs.declared.lines.Line.{Line}
-use Rattle.php_lex.specs.Bytes.{Text, len_before}
+use Rattle.php_lex_pieces.specs.Bytes.{Text, len_before}
 
 -- an LF at the front
 abbrev pub is_newline : Text → Bool

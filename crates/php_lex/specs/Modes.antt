@@ -1,6 +1,6 @@
 -- Where in a script a piece stands: what is open there, the innermost first.
 use Rattle.std.specs.Prelude.{ℕ, Bool, true, false, List, [], ◌∷◌, Option, Some, None}
-use Rattle.php_lex.specs.Bytes.{Text}
+use Rattle.php_lex_pieces.specs.Bytes.{Text}
 
 -- A construct that ends has the line on which it begins.
 pub data Mode : Type 0 where

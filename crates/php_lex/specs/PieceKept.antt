@@ -7,13 +7,13 @@ use Rattle.php_lex.specs.declared.pieces.Wording.{Wording}
 use Rattle.php_lex.specs.declared.pieces.Wording.TheVariants.{Plain, Raw, Template}
 use Rattle.php_lex.specs.declared.pieces.Draft.{Draft}
 use Rattle.php_lex.specs.declared.pieces.Piece.{Piece}
-use Rattle.php_lex.specs.Bytes.{Text}
-use Rattle.php_lex.specs.Comments.{raw_value}
-use Rattle.php_lex.specs.Delimiters.{delimiter_of}
+use Rattle.php_lex_pieces.specs.Bytes.{Text}
+use Rattle.php_lex_pieces.specs.Comments.{raw_value}
+use Rattle.php_lex_pieces.specs.Delimiters.{delimiter_of}
 use Rattle.php_lex.specs.Kept.{mode_kept}
 use Rattle.php_lex.specs.Modes as Modes
 use Rattle.php_lex.specs.Pieces as Pieces
-use Rattle.php_lex.specs.Templates.{text_value}
+use Rattle.php_lex_pieces.specs.Templates.{text_value}
 
 abbrev pub text_kept : Wording → Text
 text_kept (Plain text) = text.now

@@ -3,23 +3,23 @@ use Rattle.std.specs.Prelude.{ℕ, ◌+◌, ◌-◌, Bool, true, false, ◌&&◌
 use Rattle.std.specs.Char.{is_ascii_digit}
 use Rattle.php_lex.specs.declared.fail.LexFail.{LexFail}
 use Rattle.php_lex.specs.declared.fail.LexFail.TheVariants as Fail
-use Rattle.php_lex.specs.declared.heredocs.FirstLine.{FirstLine}
-use Rattle.php_lex.specs.declared.kind.TokenKind.{TokenKind}
-use Rattle.php_lex.specs.declared.kind.TokenKind.TheVariants as Kind
-use Rattle.php_lex.specs.declared.kind.Keyword.TheVariants as Keyword
-use Rattle.php_lex.specs.declared.kind.Punct.TheVariants as Punct
-use Rattle.php_lex.specs.declared.kind.Punct.{Punct as PunctType}
-use Rattle.php_lex.specs.declared.kind.Cast.{Cast as CastType}
-use Rattle.php_lex.specs.declared.numbers.NumberFault.{NumberFault}
-use Rattle.php_lex.specs.declared.numbers.NumberFault.TheVariants as Bad
-use Rattle.php_lex.specs.Bytes.{Text, is_blank, is_name_start, run, name_len, newline_len, len_before}
-use Rattle.php_lex.specs.Comments.{comment_start_len, line_comment_len, begins_comment, block_len, begins_echo, begins_tag, open_tag_len, raw_len, raw_value}
-use Rattle.php_lex.specs.Heredocs.{opening, label_of}
+use Rattle.php_lex_pieces.specs.declared.heredocs.FirstLine.{FirstLine}
+use Rattle.php_token.specs.declared.kind.TokenKind.{TokenKind}
+use Rattle.php_token.specs.declared.kind.TokenKind.TheVariants as Kind
+use Rattle.php_token.specs.declared.kind.Keyword.TheVariants as Keyword
+use Rattle.php_token.specs.declared.kind.Punct.TheVariants as Punct
+use Rattle.php_token.specs.declared.kind.Punct.{Punct as PunctType}
+use Rattle.php_token.specs.declared.kind.Cast.{Cast as CastType}
+use Rattle.php_lex_pieces.specs.declared.numbers.NumberFault.{NumberFault}
+use Rattle.php_lex_pieces.specs.declared.numbers.NumberFault.TheVariants as Bad
+use Rattle.php_lex_pieces.specs.Bytes.{Text, is_blank, is_name_start, run, name_len, newline_len, len_before}
+use Rattle.php_lex_pieces.specs.Comments.{comment_start_len, line_comment_len, begins_comment, block_len, begins_echo, begins_tag, open_tag_len, raw_len, raw_value}
+use Rattle.php_lex_pieces.specs.Heredocs.{opening, label_of}
 use Rattle.php_lex.specs.Modes.{Mode, outside, script, quotes, heredoc, braces, block, name_due, name_read, brackets, index, brace_due, subject, member_due, key_due, key_read, Change, stay, enter, leave, turn}
-use Rattle.php_lex.specs.Numbers.{number, key_len, int_key}
-use Rattle.php_lex.specs.Punctuators.{punctuator}
-use Rattle.php_lex.specs.Templates.{Delimiter, quote, label, is_label_line, closing_len, closes, nowdoc_len, is_cut_escape, ends, text_len, text_value}
-use Rattle.php_lex.specs.Words.{word, word_kind, cast}
+use Rattle.php_lex_pieces.specs.Numbers.{number, key_len, int_key}
+use Rattle.php_lex_pieces.specs.Punctuators.{punctuator}
+use Rattle.php_lex_pieces.specs.Templates.{Delimiter, quote, label, is_label_line, closing_len, closes, nowdoc_len, is_cut_escape, ends, text_len, text_value}
+use Rattle.php_lex_pieces.specs.Words.{word, word_kind, cast}
 
 -- a token without its line
 pub record Draft : Type 0 where

@@ -4,7 +4,7 @@ use Rattle.php_lex.specs.declared.fail.LexFail.{LexFail}
 use Rattle.php_lex.specs.declared.fail.LexFail.TheVariants.{NoMemory}
 use Rattle.php_lex.specs.declared.tokens.Builder.{Builder}
 use Rattle.php_lex.specs.declared.pieces.Piece as Kept
-use Rattle.php_lex.specs.Bytes.{Text}
+use Rattle.php_lex_pieces.specs.Bytes.{Text}
 use Rattle.php_lex.specs.Entry.{Adds}
 use Rattle.php_lex.specs.Modes.{State, mode_of, changed}
 use Rattle.php_lex.specs.PieceKept.{IsPieceOf, change_kept, piece_kept}

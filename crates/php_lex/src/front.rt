@@ -3,22 +3,20 @@
 ghost use Rattle.std.specs.Prelude.{◌≡◌, ◌<◌, length, slice_index, true};
 ghost use Rattle.std.specs.Char.{is_ascii_digit};
 ghost use Rattle.php_lex.specs.Front.{FrontWithin, Sees, simple_kept};
-ghost use Rattle.php_lex.specs.Heredocs.{opening as spec_opening};
+ghost use Rattle.php_lex_pieces.specs.Heredocs.{opening as spec_opening};
 ghost use Rattle.php_lex.specs.Kept.{mode_kept};
 ghost use Rattle.php_lex.specs.Modes.{stay};
-ghost use Rattle.php_lex.specs.Numbers.{number as spec_number};
+ghost use Rattle.php_lex_pieces.specs.Numbers.{number as spec_number};
 ghost use Rattle.php_lex.specs.Pieces as spec;
-ghost use Rattle.php_lex.specs.Punctuators.{punctuator as spec_punctuator};
-ghost use Rattle.php_lex.specs.Words.{cast as spec_cast};
+ghost use Rattle.php_lex_pieces.specs.Punctuators.{punctuator as spec_punctuator};
+ghost use Rattle.php_lex_pieces.specs.Words.{cast as spec_cast};
 
-use crate::bytes::{Class, byte, is_blank, is_name_start, name_len, run};
-use crate::comments::{begins_comment, comment_start_len, line_comment_len};
-use crate::heredocs::{FirstLine, opening};
-use crate::kind::{Punct, TokenKind};
 use crate::modes::Mode;
-use crate::numbers::{NumberFault, number};
-use crate::punctuators::punctuator;
-use crate::words::{cast, word};
+use php_lex_pieces::{
+    Class, FirstLine, NumberFault, begins_comment, byte, cast, comment_start_len, is_blank,
+    is_name_start, line_comment_len, name_len, number, opening, punctuator, run, word,
+};
+use php_token::{Punct, TokenKind};
 
 /// A piece of a script that is one token and opens and ends nothing.
 #[derive(Clone, Copy)]

@@ -2,10 +2,10 @@
 
 ghost use Rattle.std.specs.Prelude.{◌≡◌, List, Ok, Err};
 ghost use Rattle.php_lex.specs.declared.fail.LexFail.{LexFail};
-ghost use Rattle.php_lex.specs.Bytes.{Text};
+ghost use Rattle.php_lex_pieces.specs.Bytes.{Text};
 ghost use Rattle.php_lex.specs.Cut.{Cuts, Stops};
 ghost use Rattle.php_lex.specs.Reading.{tokens};
-ghost use Rattle.php_lex.specs.Token.{Token};
+ghost use Rattle.php_token.specs.Token.{Token};
 
 /// A text has at most one cut into pieces.
 pub fn at_most_one_cut()

@@ -1,7 +1,7 @@
 // The loop that cuts a script's bytes piece by piece.
 
 ghost use Rattle.std.specs.Prelude.{◌≡◌, ◌⊎◌, ◌<◌, ◌≤◌, List, length, OnOk, IfOk, IfErr};
-ghost use Rattle.php_lex.specs.Bytes.{Text};
+ghost use Rattle.php_lex_pieces.specs.Bytes.{Text};
 ghost use Rattle.php_lex.specs.Cut.{Cuts, Stops};
 ghost use Rattle.php_lex.specs.Entry.{AllWithin};
 ghost use Rattle.php_lex.specs.Modes.{changed};

@@ -1,23 +1,22 @@
 // Pieces of templates and of the parts in them.
 
 ghost use Rattle.std.specs.Prelude.{◌≡◌, ◌<◌, ◌≤◌, length, IfOk, true};
-ghost use Rattle.php_lex.specs.Delimiters.{delimiter_of};
-ghost use Rattle.php_lex.specs.Numbers.{sign_len, int_key};
+ghost use Rattle.php_lex_pieces.specs.Delimiters.{delimiter_of};
+ghost use Rattle.php_lex_pieces.specs.Numbers.{sign_len, int_key};
 ghost use Rattle.php_lex.specs.PieceKept.{Finds, IsPieceOf, piece_kept, change_kept};
 ghost use Rattle.php_lex.specs.Pieces as spec;
-ghost use Rattle.php_lex.specs.Templates.{ends as template_ends};
+ghost use Rattle.php_lex_pieces.specs.Templates.{ends as template_ends};
 
-use crate::bytes::{byte, is_name_start, name_len};
-use crate::escapes::{Delimiter, ends, is_cut_escape, text_len};
 use crate::fail::LexFail;
-use crate::heredocs::closing_len;
-use crate::kind::{Punct, TokenKind};
 use crate::modes::Mode;
-use crate::numbers::{int_key, key_len};
 use crate::pieces::{
     Change, Draft, Found, Piece, Wording, integer, last_written, one, part_begin, part_end,
 };
-use crate::words::word_kind;
+use php_lex_pieces::{
+    Delimiter, byte, closing_len, ends, int_key, is_cut_escape, is_name_start, key_len, name_len,
+    text_len, word_kind,
+};
+use php_token::{Punct, TokenKind};
 
 // Whether a part goes on behind its variable.
 fn goes_on(text: &[u8], at: usize) -> bool
@@ -77,7 +76,7 @@ fn part_piece<'a>(begun: u32, line: u32, text: &'a [u8]) -> Found<'a>
 }
 
 // The length of what ends a template at the front.
-#[tactic(auto, unfolding(crate::specs::Templates::ends))]
+#[tactic(auto, unfolding(php_lex_pieces::specs::Templates::ends))]
 fn end_len(by: Delimiter, text: &[u8]) -> usize
     requires ends { template_ends (delimiter_of by) text.now ≡ true }
     requires some { 0 < length text.now }

@@ -6,15 +6,14 @@ ghost use Rattle.php_lex.specs.Modes.{is_in_script};
 ghost use Rattle.php_lex.specs.PieceKept.{Finds, IsPieceOf, piece_kept, change_kept, text_kept};
 ghost use Rattle.php_lex.specs.Pieces as spec;
 
-use crate::comments::{begins_echo, inline_len, open_tag_len};
-use crate::escapes::Delimiter;
 use crate::fail::LexFail;
-use crate::kind::{Keyword, TokenKind};
 use crate::modes::Mode;
 use crate::part_pieces::{
     brace_end_piece, key_end_piece, key_piece, member_piece, name_end_piece, name_piece,
     subject_piece, template_piece,
 };
+use php_lex_pieces::{Delimiter, begins_echo, inline_len, open_tag_len};
+use php_token::{Keyword, TokenKind};
 
 /// The bytes of which the text of a token is made.
 #[derive(Clone, Copy)]

@@ -2,21 +2,20 @@
 
 ghost use Rattle.std.specs.Prelude.{◌≡◌, ◌<◌, ◌≤◌, length, IfOk, Ok, Some};
 ghost use Rattle.php_lex.specs.Front.{KindWithin, kind_piece as spec_kind_piece};
-ghost use Rattle.php_lex.specs.Heredocs.{IsWithin};
+ghost use Rattle.php_lex_pieces.specs.Heredocs.{IsWithin};
 ghost use Rattle.php_lex.specs.Kept.{mode_kept};
 ghost use Rattle.php_lex.specs.PieceKept.{Finds, IsPieceOf, piece_kept, change_kept};
 ghost use Rattle.php_lex.specs.Pieces as spec;
 
-use crate::bytes::{byte, newline_len};
-use crate::comments::{block_end, raw_len};
-use crate::escapes::{Delimiter, text_len};
 use crate::fail::LexFail;
 use crate::front::Kind;
-use crate::heredocs::{FirstLine, closing_len, is_label_line, nowdoc_len};
-use crate::kind::{Punct, TokenKind};
 use crate::modes::Mode;
-use crate::numbers::NumberFault;
 use crate::pieces::{Change, Found, Piece, Wording, nothing, one, part_end};
+use php_lex_pieces::{
+    Delimiter, FirstLine, NumberFault, block_end, byte, closing_len, is_label_line, newline_len,
+    nowdoc_len, raw_len, text_len,
+};
+use php_token::{Punct, TokenKind};
 
 #[tactic(auto, unfolding(crate::specs::Pieces::block_comment))]
 fn block_comment<'a>(line: u32, text: &'a [u8]) -> Found<'a>

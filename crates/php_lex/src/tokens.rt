@@ -1,22 +1,21 @@
 // The tokens of a script, seen as a list.
 
 ghost use Rattle.std.specs.Prelude.{◌≡◌, ◌<◌, ◌++◌, [], ◌∷◌, length, false, Some, IfOk, OnOk};
-ghost use Rattle.php_lex.specs.declared.kind.TokenKind.TheVariants.{Int};
-ghost use Rattle.php_lex.specs.Comments.{raw_value};
+ghost use Rattle.php_token.specs.declared.kind.TokenKind.TheVariants.{Int};
+ghost use Rattle.php_lex_pieces.specs.Comments.{raw_value};
 ghost use Rattle.php_lex.specs.Entry.{AllWithin, Keeps, Adds, tokens_in};
 ghost use Rattle.php_lex.specs.PieceKept.{draft_kept, piece_kept, text_kept};
 ghost use Rattle.php_lex.specs.Reading.{token_if, token_of_draft, tokens_of, on_line};
 ghost use Rattle.php_lex.specs.Pieces.{draft};
 ghost use Rattle.php_lex.specs.Front.{simple_kept};
-ghost use Rattle.php_lex.specs.Token.{token_at, the_token};
+ghost use Rattle.php_token.specs.Token.{token_at, the_token};
 
-use crate::bytes::byte;
-use crate::escapes::push_text;
 use crate::front::Simple;
-use crate::kind::TokenKind;
 use crate::pieces::{Draft, Piece, Wording};
 use memchr::memchr;
 use php_base::NoMemory;
+use php_lex_pieces::{byte, push_text};
+use php_token::TokenKind;
 use std::alloc::Global;
 use std::marker::Model;
 
@@ -46,7 +45,7 @@ pub struct Tokens<'a> {
 
 impl<'a> Model for Tokens<'a> {
     ghost use Rattle.std.specs.Prelude.{List, length, map};
-    ghost use Rattle.php_lex.specs.Token.{Token};
+    ghost use Rattle.php_token.specs.Token.{Token};
 
     ghost Value = { List Token };
 

@@ -4,9 +4,9 @@ use Rattle.std.specs.Prelude.{slice_index, ◌==◌}
 use Rattle.std.specs.Char.{is_ascii_digit, is_ascii_hexdigit}
 use Rattle.std.proofs.lemmas.Grind.{common_steps}
 use Rattle.php_lex.specs.declared.fail.LexFail.TheVariants as Fail
-use Rattle.php_lex.specs.Bytes.{Text, is_octal_digit, is_binary_digit, run}
+use Rattle.php_lex_pieces.specs.Bytes.{Text, is_octal_digit, is_binary_digit, run}
 use Rattle.php_lex.specs.Modes.{stay}
-use Rattle.php_lex.specs.Numbers.{value, greatest_int, goes_on_as_float, is_hexadecimal, is_binary, within_int, decimal_or_octal, number}
+use Rattle.php_lex_pieces.specs.Numbers.{value, greatest_int, goes_on_as_float, is_hexadecimal, is_binary, within_int, decimal_or_octal, number}
 use Rattle.php_lex.specs.Pieces.{Found, integer, number_piece}
 use Rattle.php_lex_laws.specs.Ranges.{AllIn}
 use Rattle.php_lex_laws.specs.ScriptForms.{begins_hexadecimal, begins_binary}

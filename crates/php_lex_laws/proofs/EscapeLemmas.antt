@@ -3,9 +3,9 @@ use Rattle.std.proofs.Common.{◌≡◌, ◌⊎◌, ℕ, zero, suc, ◌+◌, ◌
 use Rattle.std.specs.Prelude.{slice_index, ◌==◌}
 use Rattle.std.specs.Char.{is_ascii_hexdigit}
 use Rattle.std.proofs.lemmas.Grind.{common_steps}
-use Rattle.php_lex.specs.Bytes.{Text, is_octal_digit, run}
-use Rattle.php_lex.specs.Numbers.{value}
-use Rattle.php_lex.specs.Templates.{Delimiter, stretch, escape, escaped_byte, scalar_escape, is_quote, ends, begins_part}
+use Rattle.php_lex_pieces.specs.Bytes.{Text, is_octal_digit, run}
+use Rattle.php_lex_pieces.specs.Numbers.{value}
+use Rattle.php_lex_pieces.specs.Templates.{Delimiter, stretch, escape, escaped_byte, scalar_escape, is_quote, ends, begins_part}
 use Rattle.php_lex_laws.specs.Escapes as form
 use Rattle.php_lex_laws.specs.Escapes.{BeginsScalar, IsScalar, IsPlain, IsEscape}
 use Rattle.php_lex_laws.specs.Ranges.{AllIn}

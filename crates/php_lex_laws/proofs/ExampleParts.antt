@@ -1,16 +1,16 @@
 -- What the examples share.
 use Rattle.std.proofs.Common.{◌≡◌, ℕ, ◌<◌, ◌≤◌, true, nat_lt, nat_le, [], ◌∷◌, arith}
 use Rattle.std.proofs.lemmas.Grind.{common_steps}
-use Rattle.php_lex.specs.Bytes.{Text}
+use Rattle.php_lex_pieces.specs.Bytes.{Text}
 use Rattle.php_lex.specs.Modes.{Mode}
 use Rattle.php_lex.specs.Pieces.{Piece, Found, piece}
 use Rattle.php_lex.specs.Pieces as Pieces
-use Rattle.php_lex.specs.Words as Words
-use Rattle.php_lex.specs.Numbers as Numbers
-use Rattle.php_lex.specs.Punctuators as Punctuators
-use Rattle.php_lex.specs.Comments as Comments
-use Rattle.php_lex.specs.Heredocs as Heredocs
-use Rattle.php_lex.specs.Templates as Templates
+use Rattle.php_lex_pieces.specs.Words as Words
+use Rattle.php_lex_pieces.specs.Numbers as Numbers
+use Rattle.php_lex_pieces.specs.Punctuators as Punctuators
+use Rattle.php_lex_pieces.specs.Comments as Comments
+use Rattle.php_lex_pieces.specs.Heredocs as Heredocs
+use Rattle.php_lex_pieces.specs.Templates as Templates
 
 -- what stands at the front of a text, where all that it computes with is open
 unfoldable pub read : Mode → Text → Found

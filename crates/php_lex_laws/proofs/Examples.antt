@@ -2,12 +2,12 @@
 use Rattle.std.proofs.Common.{false, [], ◌∷◌, ◌++◌, drop, refl, arith, inl, inr}
 use Rattle.std.specs.Prelude.{codes}
 use Rattle.std.specs.Char.{is_ascii_digit, is_ascii_hexdigit}
-use Rattle.php_lex.specs.declared.kind.Cast.TheVariants as Cast
-use Rattle.php_lex.specs.declared.kind.Punct.TheVariants as Punct
-use Rattle.php_lex.specs.Bytes.{Text, is_blank, is_gap, is_octal_digit, is_binary_digit}
+use Rattle.php_token.specs.declared.kind.Cast.TheVariants as Cast
+use Rattle.php_token.specs.declared.kind.Punct.TheVariants as Punct
+use Rattle.php_lex_pieces.specs.Bytes.{Text, is_blank, is_gap, is_octal_digit, is_binary_digit}
 use Rattle.php_lex.specs.Modes.{outside, script, braces}
-use Rattle.php_lex.specs.Comments as Comments
-use Rattle.php_lex.specs.Templates as Templates
+use Rattle.php_lex_pieces.specs.Comments as Comments
+use Rattle.php_lex_pieces.specs.Templates as Templates
 use Rattle.php_lex_laws.specs.Longest.{IsPieceAt}
 use Rattle.php_lex_laws.specs.OutsideForms as outer
 use Rattle.php_lex_laws.specs.ScriptForms as form

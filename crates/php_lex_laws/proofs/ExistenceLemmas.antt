@@ -2,12 +2,12 @@
 use Rattle.std.proofs.Common.{◌≡◌, ◌⊎◌, ℕ, zero, suc, ◌<◌, ◌≤◌, List, [], ◌∷◌, ◌++◌, length, take, drop, Option, Some, None, Ok, Err, refl, sym, ap, ◌∙◌, subst, arith, inl, inr, ⊎_elim, append_assoc, length-drop, length-take-le, take-append-drop}
 use Rattle.php_lex.specs.declared.fail.LexFail.{LexFail}
 use Rattle.php_lex.specs.declared.fail.LexFail.TheVariants.{Unclosed}
-use Rattle.php_lex.specs.Bytes.{Text}
+use Rattle.php_lex_pieces.specs.Bytes.{Text}
 use Rattle.php_lex.specs.Cut.{joined, Stands, Follow, NoPiece}
 use Rattle.php_lex.specs.Modes.{State, start, mode_of, unclosed, changed}
 use Rattle.php_lex.specs.Pieces.{Piece, Found, piece}
 use Rattle.php_lex.specs.Reading.{tokens_of, lines_after}
-use Rattle.php_lex.specs.Token.{Token}
+use Rattle.php_token.specs.Token.{Token}
 use Rattle.php_lex_laws.specs.LongestCut.{IsCut, IsStop}
 use Rattle.php_lex_laws.proofs.LongestCuts.{cut_longest, stop_longest}
 use Rattle.php_lex_laws.proofs.LongestLemmas.{is_longest}

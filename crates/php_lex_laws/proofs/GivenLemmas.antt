@@ -1,10 +1,10 @@
 -- The piece that n bytes give has that length.
 use Rattle.std.proofs.Common.{◌≡◌, ℕ, Bool, true, false, cond, Option, Some, None, ℤ, refl}
-use Rattle.php_lex.specs.Bytes.{Text}
+use Rattle.php_lex_pieces.specs.Bytes.{Text}
 use Rattle.php_lex.specs.Modes.{Mode, outside, script, quotes, heredoc, braces, block, name_due, name_read, brackets, index, brace_due, subject, member_due, key_due, key_read}
-use Rattle.php_lex.specs.Numbers.{int_key}
+use Rattle.php_lex_pieces.specs.Numbers.{int_key}
 use Rattle.php_lex.specs.Pieces.{Piece, is_part_end, number_key}
-use Rattle.php_lex.specs.Templates.{Delimiter, quote, label}
+use Rattle.php_lex_pieces.specs.Templates.{Delimiter, quote, label}
 use Rattle.php_lex_laws.specs.Longest.{Form, given}
 use Rattle.php_lex_laws.specs.OutsideForms as outer
 use Rattle.php_lex_laws.specs.PartForms as part

@@ -2,12 +2,12 @@
 use Rattle.std.proofs.Common.{◌≡◌, ◌⊎◌, ℕ, zero, suc, ◌+◌, ◌<◌, Bool, true, false, ◌&&◌, ◌||◌, nat_lt, cond, length, drop, Some, refl, sym, ap, ◌∙◌, subst, arith, inl, inr, ⊎_elim}
 use Rattle.std.specs.Prelude.{slice_index, ◌==◌}
 use Rattle.std.proofs.lemmas.Grind.{common_steps}
-use Rattle.php_lex.specs.Bytes.{Text, is_gap, is_name_start, is_name_byte, run, name_len, line_end_len}
-use Rattle.php_lex.specs.Heredocs.{opening, labelled}
+use Rattle.php_lex_pieces.specs.Bytes.{Text, is_gap, is_name_start, is_name_byte, run, name_len, line_end_len}
+use Rattle.php_lex_pieces.specs.Heredocs.{opening, labelled}
 use Rattle.php_lex.specs.Modes.{Mode}
 use Rattle.php_lex.specs.Pieces.{Found, labelled_piece, heredoc_or_sign, sign_piece}
-use Rattle.php_lex.specs.Punctuators.{punctuator}
-use Rattle.php_lex.specs.Templates.{label, closes, closing_len, is_label_line, stretch, ends}
+use Rattle.php_lex_pieces.specs.Punctuators.{punctuator}
+use Rattle.php_lex_pieces.specs.Templates.{label, closes, closing_len, is_label_line, stretch, ends}
 use Rattle.php_lex_laws.specs.Ranges.{AllIn, IsName}
 use Rattle.php_lex_laws.specs.ScriptForms.{Label, Opens, quote_len}
 use Rattle.php_lex_laws.proofs.RangeLemmas.{no_both, chosen, other, decide, same_byte, is_byte, is_over, is_positive, and_left, and_right, both_hold, run_is, run_all, behind, behind_first, name_is, name_there}

@@ -4,9 +4,9 @@ use Rattle.std.specs.Prelude.{slice_index, ◌==◌}
 use Rattle.std.specs.Char.{is_ascii_hexdigit}
 use Rattle.std.proofs.lemmas.Grind.{common_steps}
 use Rattle.std.proofs.lemmas.List.Sums.{prefix_len-le-length}
-use Rattle.php_lex.specs.Bytes.{Text, run, is_octal_digit}
-use Rattle.php_lex.specs.Numbers.{value}
-use Rattle.php_lex.specs.Templates.{Delimiter, quote, stretch, escape, escaped_byte, scalar_escape, ends, begins_part, is_quote, text_len_from, text_len}
+use Rattle.php_lex_pieces.specs.Bytes.{Text, run, is_octal_digit}
+use Rattle.php_lex_pieces.specs.Numbers.{value}
+use Rattle.php_lex_pieces.specs.Templates.{Delimiter, quote, stretch, escape, escaped_byte, scalar_escape, ends, begins_part, is_quote, text_len_from, text_len}
 use Rattle.php_lex_laws.specs.Escapes.{IsInside}
 use Rattle.php_lex_laws.proofs.EscapeLemmas.{unit_is, unit_there}
 use Rattle.php_lex_laws.proofs.RangeLemmas.{chosen, other, same_byte, and_left, and_right}

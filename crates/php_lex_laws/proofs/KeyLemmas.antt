@@ -4,10 +4,10 @@ use Rattle.std.specs.Prelude.{slice_index, ◌==◌}
 use Rattle.std.specs.Char.{is_ascii_digit, is_ascii_hexdigit}
 use Rattle.std.proofs.lemmas.Grind.{common_steps}
 use Rattle.php_lex.specs.declared.fail.LexFail.TheVariants as Fail
-use Rattle.php_lex.specs.declared.kind.TokenKind.TheVariants as Kind
-use Rattle.php_lex.specs.Bytes.{Text, is_name_start, is_name_byte, is_binary_digit, run, name_len}
+use Rattle.php_token.specs.declared.kind.TokenKind.TheVariants as Kind
+use Rattle.php_lex_pieces.specs.Bytes.{Text, is_name_start, is_name_byte, is_binary_digit, run, name_len}
 use Rattle.php_lex.specs.Modes.{key_due, key_read, turn}
-use Rattle.php_lex.specs.Numbers.{key_len, sign_len, int_key, is_hexadecimal, is_binary}
+use Rattle.php_lex_pieces.specs.Numbers.{key_len, sign_len, int_key, is_hexadecimal, is_binary}
 use Rattle.php_lex.specs.Pieces.{Found, one, written, number_key, key_piece}
 use Rattle.php_lex_laws.specs.Ranges.{AllIn}
 use Rattle.php_lex_laws.specs.PartForms as form

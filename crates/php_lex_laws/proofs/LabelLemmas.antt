@@ -3,11 +3,11 @@ use Rattle.std.proofs.Common.{◌≡◌, ℕ, ◌+◌, ◌-◌, ◌<◌, ◌≤�
 use Rattle.std.specs.Prelude.{◌==◌}
 use Rattle.std.proofs.lemmas.Grind.{common_steps}
 use Rattle.php_lex.specs.declared.fail.LexFail.TheVariants as Fail
-use Rattle.php_lex.specs.declared.kind.TokenKind.TheVariants as Kind
-use Rattle.php_lex.specs.Bytes.{Text, len_before}
+use Rattle.php_token.specs.declared.kind.TokenKind.TheVariants as Kind
+use Rattle.php_lex_pieces.specs.Bytes.{Text, len_before}
 use Rattle.php_lex.specs.Modes.{heredoc, stay, enter}
 use Rattle.php_lex.specs.Pieces.{Found, one, labelled_piece, nowdoc, heredoc_piece}
-use Rattle.php_lex.specs.Templates.{label, is_label_line, closes, closing_len, text_len, text_value}
+use Rattle.php_lex_pieces.specs.Templates.{label, is_label_line, closes, closing_len, text_len, text_value}
 use Rattle.php_lex_laws.specs.Escapes.{IsInside}
 use Rattle.php_lex_laws.specs.Ranges.{FirstAt}
 use Rattle.php_lex_laws.specs.ScriptForms.{Label, Opens, IsEmpty, name_of}

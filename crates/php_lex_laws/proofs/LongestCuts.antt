@@ -1,12 +1,12 @@
 -- A cut by what stands at a place, and a cut into the longest pieces, are one.
 use Rattle.std.proofs.Common.{ℕ, ◌<◌, List, [], ◌∷◌, ◌++◌, length, Ok, sym, ap, ◌∙◌, subst, arith, length-append}
 use Rattle.php_lex.specs.declared.fail.LexFail.{LexFail}
-use Rattle.php_lex.specs.Bytes.{Text}
+use Rattle.php_lex_pieces.specs.Bytes.{Text}
 use Rattle.php_lex.specs.Cut.{joined, Stands, Follow, Cuts, NoPiece, Stops}
 use Rattle.php_lex.specs.Modes.{State, mode_of, changed}
 use Rattle.php_lex.specs.Pieces.{Piece}
 use Rattle.php_lex.specs.Reading.{lines_after}
-use Rattle.php_lex.specs.Token.{Token}
+use Rattle.php_token.specs.Token.{Token}
 use Rattle.php_lex_laws.specs.Longest.{given, IsPieceAt}
 use Rattle.php_lex_laws.specs.LongestCut.{IsLongest, AreLongest, IsCut, IsNone, IsStop}
 use Rattle.php_lex_laws.proofs.GivenLemmas.{given_len}

@@ -4,10 +4,10 @@ use Rattle.std.specs.Prelude.{slice_index}
 use Rattle.std.specs.Char.{is_ascii_digit}
 use Rattle.php_lex.specs.declared.fail.LexFail.{LexFail}
 use Rattle.php_lex.specs.declared.fail.LexFail.TheVariants as Fail
-use Rattle.php_lex.specs.Bytes.{Text}
+use Rattle.php_lex_pieces.specs.Bytes.{Text}
 use Rattle.php_lex.specs.Modes.{Mode, outside, script, quotes, heredoc, braces, block, name_due, name_read, brackets, index, brace_due, subject, member_due, key_due, key_read}
 use Rattle.php_lex.specs.Pieces.{Piece, Found, piece, script_piece, template_piece}
-use Rattle.php_lex.specs.Templates.{quote, label}
+use Rattle.php_lex_pieces.specs.Templates.{quote, label}
 use Rattle.php_lex_laws.specs.Longest.{Form, HasForm, given, Exception, IsNoPiece, fault_of, IsOtherFault, NoException, NoForm, IsPieceAt, IsFaultAt}
 use Rattle.php_lex_laws.specs.ScriptFaults as fault
 use Rattle.php_lex_laws.specs.ScriptForms as form

@@ -2,10 +2,10 @@
 use Rattle.std.proofs.Common.{true, false, ◌++◌, drop, refl, ◌∙◌, arith, inl, inr}
 use Rattle.std.specs.Prelude.{codes}
 use Rattle.std.specs.Char.{is_ascii_digit, is_ascii_hexdigit}
-use Rattle.php_lex.specs.Bytes.{Text, is_gap, is_octal_digit, is_binary_digit}
+use Rattle.php_lex_pieces.specs.Bytes.{Text, is_gap, is_octal_digit, is_binary_digit}
 use Rattle.php_lex.specs.Modes.{script, quotes, heredoc, name_due, name_read, brace_due, subject, member_due, key_due, key_read}
-use Rattle.php_lex.specs.Comments as Comments
-use Rattle.php_lex.specs.Templates as Templates
+use Rattle.php_lex_pieces.specs.Comments as Comments
+use Rattle.php_lex_pieces.specs.Templates as Templates
 use Rattle.php_lex_laws.specs.Escapes.{IsEscape}
 use Rattle.php_lex_laws.specs.Longest.{IsPieceAt, IsNoPiece}
 use Rattle.php_lex_laws.specs.PartForms as part

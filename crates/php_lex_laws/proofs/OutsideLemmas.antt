@@ -4,10 +4,10 @@ use Rattle.std.specs.Prelude.{slice_index, ◌==◌, codes}
 use Rattle.std.specs.Str.{str_to_ascii_lowercase}
 use Rattle.std.proofs.lemmas.Grind.{common_steps}
 use Rattle.std.proofs.lemmas.Slice.Eq.{bytes_eq-Decides}
-use Rattle.php_lex.specs.declared.kind.Keyword.TheVariants as Keyword
-use Rattle.php_lex.specs.declared.kind.TokenKind.TheVariants as Kind
-use Rattle.php_lex.specs.Bytes.{Text, is_blank, newline_len, len_before}
-use Rattle.php_lex.specs.Comments.{begins_echo, begins_tag, open_tag_len, is_tag_name, is_separated, separator_len}
+use Rattle.php_token.specs.declared.kind.Keyword.TheVariants as Keyword
+use Rattle.php_token.specs.declared.kind.TokenKind.TheVariants as Kind
+use Rattle.php_lex_pieces.specs.Bytes.{Text, is_blank, newline_len, len_before}
+use Rattle.php_lex_pieces.specs.Comments.{begins_echo, begins_tag, open_tag_len, is_tag_name, is_separated, separator_len}
 use Rattle.php_lex.specs.Modes.{outside, stay, leave}
 use Rattle.php_lex.specs.Pieces.{Found, nothing, one, written, outside_piece}
 use Rattle.php_lex_laws.specs.Ranges.{NoneAt}

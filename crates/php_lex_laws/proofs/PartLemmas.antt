@@ -2,12 +2,12 @@
 use Rattle.std.proofs.Common.{◌≡◌, ℕ, ◌<◌, false, ◌&&◌, nat_lt, take, Ok, Err, refl, sym, ap, arith, inr}
 use Rattle.std.specs.Prelude.{slice_index, ◌==◌}
 use Rattle.php_lex.specs.declared.fail.LexFail.TheVariants as Fail
-use Rattle.php_lex.specs.declared.kind.Punct.TheVariants as Punct
-use Rattle.php_lex.specs.declared.kind.TokenKind.TheVariants as Kind
-use Rattle.php_lex.specs.Bytes.{Text, name_len}
+use Rattle.php_token.specs.declared.kind.Punct.TheVariants as Punct
+use Rattle.php_token.specs.declared.kind.TokenKind.TheVariants as Kind
+use Rattle.php_lex_pieces.specs.Bytes.{Text, name_len}
 use Rattle.php_lex.specs.Modes.{name_due, name_read, brackets, brace_due, subject, member_due, key_due, key_read, turn}
 use Rattle.php_lex.specs.Pieces.{Found, written, part_end, last_written, subject_piece, member_piece, key_end_piece, name_piece, name_end_piece, brace_end_piece}
-use Rattle.php_lex.specs.Words.{word_kind}
+use Rattle.php_lex_pieces.specs.Words.{word_kind}
 use Rattle.php_lex_laws.specs.PartForms as form
 use Rattle.php_lex_laws.proofs.RangeLemmas.{no_both, decide, same_byte, other_byte, is_byte, is_over, is_under, and_left, and_right, name_reaches, name_there}
 use Rattle.php_lex_laws.proofs.Standing.{Reaches, Outcome}

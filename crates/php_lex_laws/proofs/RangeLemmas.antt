@@ -3,8 +3,8 @@ use Rattle.std.proofs.Common.{◌≡◌, ℕ, zero, suc, ◌+◌, ◌<◌, ◌�
 use Rattle.std.specs.Prelude.{slice_index, ◌==◌}
 use Rattle.std.specs.List.{prefix_len}
 use Rattle.std.proofs.lemmas.Grind.{common_steps}
-use Rattle.php_lex.specs.Bytes.{Text, is_name_start, is_name_byte, run, name_len, len_before}
-use Rattle.php_lex.specs.Comments.{raw_len}
+use Rattle.php_lex_pieces.specs.Bytes.{Text, is_name_start, is_name_byte, run, name_len, len_before}
+use Rattle.php_lex_pieces.specs.Comments.{raw_len}
 use Rattle.php_lex_laws.specs.Ranges.{AllIn, NoneAt, FirstAt, IsName, IsRaw}
 
 pub no_both : (v : Bool) → v ≡ true → v ≡ false → ⊥

@@ -4,16 +4,16 @@ use Rattle.std.specs.Prelude.{slice_index, ◌==◌}
 use Rattle.std.specs.Char.{is_ascii_digit}
 use Rattle.std.proofs.lemmas.Grind.{common_steps}
 use Rattle.php_lex.specs.declared.fail.LexFail.TheVariants as Fail
-use Rattle.php_lex.specs.declared.kind.TokenKind.TheVariants as Kind
-use Rattle.php_lex.specs.Bytes.{Text, is_blank, is_name_start, run, name_len}
-use Rattle.php_lex.specs.Comments.{comment_start_len, line_comment_len, begins_comment, block_len, ends_block, ends_comment, raw_len, raw_value}
-use Rattle.php_lex.specs.Heredocs.{opening}
+use Rattle.php_token.specs.declared.kind.TokenKind.TheVariants as Kind
+use Rattle.php_lex_pieces.specs.Bytes.{Text, is_blank, is_name_start, run, name_len}
+use Rattle.php_lex_pieces.specs.Comments.{comment_start_len, line_comment_len, begins_comment, block_len, ends_block, ends_comment, raw_len, raw_value}
+use Rattle.php_lex_pieces.specs.Heredocs.{opening}
 use Rattle.php_lex.specs.Modes.{Mode, stay, enter, quotes}
-use Rattle.php_lex.specs.Numbers.{number}
+use Rattle.php_lex_pieces.specs.Numbers.{number}
 use Rattle.php_lex.specs.Pieces.{Found, nothing, one, written, end_tag, script_piece, variable, raw, quoted, sign, block_comment, number_piece, cast_or_sign, heredoc_or_sign, sign_piece}
-use Rattle.php_lex.specs.Punctuators.{punctuator}
-use Rattle.php_lex.specs.Templates.{quote, text_len, text_value}
-use Rattle.php_lex.specs.Words.{word, cast}
+use Rattle.php_lex_pieces.specs.Punctuators.{punctuator}
+use Rattle.php_lex_pieces.specs.Templates.{quote, text_len, text_value}
+use Rattle.php_lex_pieces.specs.Words.{word, cast}
 use Rattle.php_lex_laws.specs.Escapes.{IsInside}
 use Rattle.php_lex_laws.specs.Ranges.{FirstAt, IsRaw}
 use Rattle.php_lex_laws.proofs.InsideLemmas.{inside_len, byte_past}

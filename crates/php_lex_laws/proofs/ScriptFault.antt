@@ -5,10 +5,10 @@ use Rattle.std.specs.Char.{is_ascii_digit, is_ascii_hexdigit}
 use Rattle.std.proofs.lemmas.Grind.{common_steps}
 use Rattle.php_lex.specs.declared.fail.LexFail.{LexFail}
 use Rattle.php_lex.specs.declared.fail.LexFail.TheVariants as Fail
-use Rattle.php_lex.specs.Bytes.{Text, is_octal_digit, is_binary_digit}
-use Rattle.php_lex.specs.Comments.{ends_block}
+use Rattle.php_lex_pieces.specs.Bytes.{Text, is_octal_digit, is_binary_digit}
+use Rattle.php_lex_pieces.specs.Comments.{ends_block}
 use Rattle.php_lex.specs.Modes.{Mode}
-use Rattle.php_lex.specs.Numbers.{value, greatest_int, number, goes_on_as_float, is_hexadecimal, is_binary}
+use Rattle.php_lex_pieces.specs.Numbers.{value, greatest_int, number, goes_on_as_float, is_hexadecimal, is_binary}
 use Rattle.php_lex.specs.Pieces.{Found, script_piece, number_piece}
 use Rattle.php_lex_laws.specs.Ranges.{AllIn}
 use Rattle.php_lex_laws.specs.ScriptForms as form

@@ -4,16 +4,16 @@ use Rattle.std.specs.Prelude.{slice_index, ◌==◌}
 use Rattle.std.specs.Char.{is_ascii_digit}
 use Rattle.std.proofs.lemmas.Grind.{common_steps}
 use Rattle.php_lex.specs.declared.fail.LexFail.TheVariants as Fail
-use Rattle.php_lex.specs.declared.kind.Cast.{Cast}
-use Rattle.php_lex.specs.declared.kind.Punct.{Punct}
-use Rattle.php_lex.specs.declared.kind.TokenKind.TheVariants as Kind
-use Rattle.php_lex.specs.Bytes.{Text, is_blank, is_name_start, is_name_byte, run, name_len, len_before}
-use Rattle.php_lex.specs.Comments.{comment_start_len, ends_comment, raw_value}
+use Rattle.php_token.specs.declared.kind.Cast.{Cast}
+use Rattle.php_token.specs.declared.kind.Punct.{Punct}
+use Rattle.php_token.specs.declared.kind.TokenKind.TheVariants as Kind
+use Rattle.php_lex_pieces.specs.Bytes.{Text, is_blank, is_name_start, is_name_byte, run, name_len, len_before}
+use Rattle.php_lex_pieces.specs.Comments.{comment_start_len, ends_comment, raw_value}
 use Rattle.php_lex.specs.Modes.{Mode, stay}
-use Rattle.php_lex.specs.Numbers.{value}
+use Rattle.php_lex_pieces.specs.Numbers.{value}
 use Rattle.php_lex.specs.Pieces.{Found, one, written, integer, part_end, sign_change, is_part_end, script_piece, cast_or_sign, sign_piece}
-use Rattle.php_lex.specs.Punctuators.{punctuator}
-use Rattle.php_lex.specs.Words.{cast}
+use Rattle.php_lex_pieces.specs.Punctuators.{punctuator}
+use Rattle.php_lex_pieces.specs.Words.{cast}
 use Rattle.php_lex_laws.specs.ScriptForms as form
 use Rattle.php_lex_laws.specs.ScriptFaults as fault
 use Rattle.php_lex_laws.proofs.DigitLemmas.{run_some}

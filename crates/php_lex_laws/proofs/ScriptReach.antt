@@ -3,20 +3,20 @@ use Rattle.std.proofs.Common.{◌≡◌, ℕ, ◌+◌, ◌-◌, ◌<◌, ◌≤�
 use Rattle.std.specs.Prelude.{slice_index, ◌==◌, codes}
 use Rattle.std.specs.Char.{is_ascii_digit, is_ascii_hexdigit}
 use Rattle.std.proofs.lemmas.Grind.{common_steps}
-use Rattle.php_lex.specs.declared.kind.Cast.{Cast}
-use Rattle.php_lex.specs.declared.kind.Keyword.TheVariants as Keyword
-use Rattle.php_lex.specs.declared.kind.Punct.{Punct}
-use Rattle.php_lex.specs.declared.kind.Punct.TheVariants as PunctKind
-use Rattle.php_lex.specs.declared.kind.TokenKind.{TokenKind}
-use Rattle.php_lex.specs.declared.kind.TokenKind.TheVariants as Kind
-use Rattle.php_lex.specs.Bytes.{Text, is_blank, is_name_start, is_octal_digit, is_binary_digit, name_len}
-use Rattle.php_lex.specs.Comments.{comment_start_len, ends_comment, ends_block, raw_value}
+use Rattle.php_token.specs.declared.kind.Cast.{Cast}
+use Rattle.php_token.specs.declared.kind.Keyword.TheVariants as Keyword
+use Rattle.php_token.specs.declared.kind.Punct.{Punct}
+use Rattle.php_token.specs.declared.kind.Punct.TheVariants as PunctKind
+use Rattle.php_token.specs.declared.kind.TokenKind.{TokenKind}
+use Rattle.php_token.specs.declared.kind.TokenKind.TheVariants as Kind
+use Rattle.php_lex_pieces.specs.Bytes.{Text, is_blank, is_name_start, is_octal_digit, is_binary_digit, name_len}
+use Rattle.php_lex_pieces.specs.Comments.{comment_start_len, ends_comment, ends_block, raw_value}
 use Rattle.php_lex.specs.Modes.{Mode, stay, enter, quotes, heredoc, outside}
-use Rattle.php_lex.specs.Numbers.{value, greatest_int, number, is_hexadecimal, is_binary}
+use Rattle.php_lex_pieces.specs.Numbers.{value, greatest_int, number, is_hexadecimal, is_binary}
 use Rattle.php_lex.specs.Pieces.{Found, nothing, one, written, integer, part_end, sign_change, is_part_end, script_piece, number_piece, cast_or_sign, heredoc_or_sign, sign_piece}
-use Rattle.php_lex.specs.Punctuators.{punctuators, punctuator}
-use Rattle.php_lex.specs.Templates.{quote, label, text_len, text_value}
-use Rattle.php_lex.specs.Words.{word, word_kind, yield_from_len, cast}
+use Rattle.php_lex_pieces.specs.Punctuators.{punctuators, punctuator}
+use Rattle.php_lex_pieces.specs.Templates.{quote, label, text_len, text_value}
+use Rattle.php_lex_pieces.specs.Words.{word, word_kind, yield_from_len, cast}
 use Rattle.php_lex_laws.specs.Ranges.{AllIn}
 use Rattle.php_lex_laws.specs.ScriptForms as form
 use Rattle.php_lex_laws.specs.ScriptFaults as fault

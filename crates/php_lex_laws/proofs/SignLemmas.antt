@@ -5,9 +5,9 @@ use Rattle.std.specs.Char.{is_ascii_digit}
 use Rattle.std.specs.List.{starts_with}
 use Rattle.std.proofs.lemmas.Grind.{common_steps}
 use Rattle.std.proofs.lemmas.Slice.Eq.{bytes_eq-Decides}
-use Rattle.php_lex.specs.declared.kind.Punct.{Punct}
-use Rattle.php_lex.specs.Bytes.{Text, is_blank, is_name_start}
-use Rattle.php_lex.specs.Punctuators.{punctuators, punctuator, first_in}
+use Rattle.php_token.specs.declared.kind.Punct.{Punct}
+use Rattle.php_lex_pieces.specs.Bytes.{Text, is_blank, is_name_start}
+use Rattle.php_lex_pieces.specs.Punctuators.{punctuators, punctuator, first_in}
 use Rattle.php_lex_laws.specs.ScriptForms.{Matches}
 use Rattle.php_lex_laws.proofs.RangeLemmas.{no_both, and_left, and_right, same_byte, is_byte, is_over}
 

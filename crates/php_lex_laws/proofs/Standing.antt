@@ -1,6 +1,6 @@
 -- What is to be shown of each mode.
 use Rattle.std.proofs.Common.{◌≡◌, ◌⊎◌, ℕ, ◌≤◌, Ok, Err}
-use Rattle.php_lex.specs.Bytes.{Text}
+use Rattle.php_lex_pieces.specs.Bytes.{Text}
 use Rattle.php_lex.specs.Modes.{Mode}
 use Rattle.php_lex.specs.Pieces.{Found}
 use Rattle.php_lex_laws.specs.Longest.{Form, HasForm, given, Exception, IsNoPiece, fault_of, IsOtherFault, NoException}

@@ -4,11 +4,11 @@ use Rattle.std.specs.Prelude.{slice_index, ◌==◌}
 use Rattle.std.specs.Char.{is_ascii_hexdigit}
 use Rattle.std.proofs.lemmas.Grind.{common_steps}
 use Rattle.php_lex.specs.declared.fail.LexFail.TheVariants as Fail
-use Rattle.php_lex.specs.declared.kind.TokenKind.TheVariants as Kind
-use Rattle.php_lex.specs.Bytes.{Text, is_name_start, run}
+use Rattle.php_token.specs.declared.kind.TokenKind.TheVariants as Kind
+use Rattle.php_lex_pieces.specs.Bytes.{Text, is_name_start, run}
 use Rattle.php_lex.specs.Modes.{braces, name_due, stay, leave}
 use Rattle.php_lex.specs.Pieces.{Found, one, part_begin, variable_part, closing, part_piece, template_piece}
-use Rattle.php_lex.specs.Templates.{Delimiter, quote, label, stretch, is_cut_escape, ends, begins_part, closes, text_len, text_len_from, text_value}
+use Rattle.php_lex_pieces.specs.Templates.{Delimiter, quote, label, stretch, is_cut_escape, ends, begins_part, closes, text_len, text_len_from, text_value}
 use Rattle.php_lex_laws.specs.Escapes.{IsScalar}
 use Rattle.php_lex_laws.specs.TemplateForms as form
 use Rattle.php_lex_laws.proofs.EscapeLemmas.{brace_no_digit}

@@ -5,11 +5,11 @@ use Rattle.std.specs.Char.{is_ascii_hexdigit}
 use Rattle.std.proofs.lemmas.Grind.{common_steps}
 use Rattle.php_lex.specs.declared.fail.LexFail.{LexFail}
 use Rattle.php_lex.specs.declared.fail.LexFail.TheVariants as Fail
-use Rattle.php_lex.specs.declared.kind.TokenKind.TheVariants as Kind
-use Rattle.php_lex.specs.Bytes.{Text, is_name_start, is_name_byte, run, name_len}
+use Rattle.php_token.specs.declared.kind.TokenKind.TheVariants as Kind
+use Rattle.php_lex_pieces.specs.Bytes.{Text, is_name_start, is_name_byte, run, name_len}
 use Rattle.php_lex.specs.Modes.{braces, name_due, stay, leave}
 use Rattle.php_lex.specs.Pieces.{Found, one, part_begin, template_piece, part_piece}
-use Rattle.php_lex.specs.Templates.{Delimiter, stretch, scalar_escape, is_cut_escape, is_quote, ends, text_value}
+use Rattle.php_lex_pieces.specs.Templates.{Delimiter, stretch, scalar_escape, is_cut_escape, is_quote, ends, text_value}
 use Rattle.php_lex_laws.specs.Escapes.{BeginsScalar, IsScalar}
 use Rattle.php_lex_laws.specs.TemplateForms as form
 use Rattle.php_lex_laws.proofs.DigitLemmas.{run_some}

@@ -6,10 +6,10 @@ use Rattle.std.specs.List.{starts_with}
 use Rattle.std.proofs.lemmas.Grind.{common_steps}
 use Rattle.std.proofs.lemmas.List.Sums.{prefix_len-le-length}
 use Rattle.std.proofs.lemmas.Slice.Eq.{bytes_eq-Decides}
-use Rattle.php_lex.specs.Bytes.{Text, is_blank, is_octal_digit, is_binary_digit, newline_len, line_end_len}
-use Rattle.php_lex.specs.Comments.{ends_block, begins_echo}
+use Rattle.php_lex_pieces.specs.Bytes.{Text, is_blank, is_octal_digit, is_binary_digit, newline_len, line_end_len}
+use Rattle.php_lex_pieces.specs.Comments.{ends_block, begins_echo}
 use Rattle.php_lex.specs.Modes.{Mode, outside, script, quotes, heredoc, braces, block, name_due, name_read, brackets, index, brace_due, subject, member_due, key_due, key_read}
-use Rattle.php_lex.specs.Templates.{Delimiter, quote, label, ends, ends_line, is_label_line, closes, closing_len}
+use Rattle.php_lex_pieces.specs.Templates.{Delimiter, quote, label, ends, ends_line, is_label_line, closes, closing_len}
 use Rattle.php_lex_laws.specs.Longest.{Form, HasForm}
 use Rattle.php_lex_laws.specs.OutsideForms as outer
 use Rattle.php_lex_laws.specs.PartForms as part

@@ -6,9 +6,9 @@ use Rattle.std.proofs.lemmas.Grind.{common_steps}
 use Rattle.std.proofs.lemmas.List.{length-map}
 use Rattle.std.proofs.lemmas.List.Sums.{prefix_len-le-length}
 use Rattle.std.proofs.lemmas.Slice.Eq.{bytes_eq-Decides}
-use Rattle.php_lex.specs.declared.kind.Cast.{Cast}
-use Rattle.php_lex.specs.Bytes.{Text, is_blank, is_gap, is_name_start, is_name_byte, run, name_len}
-use Rattle.php_lex.specs.Words.{word_at, is_word_at, yield_from_len, cast, cast_words, closed_cast, look_up}
+use Rattle.php_token.specs.declared.kind.Cast.{Cast}
+use Rattle.php_lex_pieces.specs.Bytes.{Text, is_blank, is_gap, is_name_start, is_name_byte, run, name_len}
+use Rattle.php_lex_pieces.specs.Words.{word_at, is_word_at, yield_from_len, cast, cast_words, closed_cast, look_up}
 use Rattle.php_lex_laws.specs.Ranges.{AllIn, IsName}
 use Rattle.php_lex_laws.specs.ScriptForms as form
 use Rattle.php_lex_laws.proofs.HeredocLemmas.{and_last}

@@ -1,9 +1,9 @@
 -- The bytes and escapes of which the text of a template consists.
 use Rattle.std.specs.Prelude.{◌≡◌, ◌⊎◌, [], ◌∷◌, ℕ, zero, suc, ◌+◌, ◌-◌, ◌<◌, ◌≤◌, true, false, ◌||◌, ◌==◌, take, drop, slice_index}
 use Rattle.std.specs.Char.{is_ascii_hexdigit}
-use Rattle.php_lex.specs.Bytes.{Text, is_octal_digit}
-use Rattle.php_lex.specs.Numbers.{value}
-use Rattle.php_lex.specs.Templates.{Delimiter, escaped_byte, is_quote, ends, begins_part}
+use Rattle.php_lex_pieces.specs.Bytes.{Text, is_octal_digit}
+use Rattle.php_lex_pieces.specs.Numbers.{value}
+use Rattle.php_lex_pieces.specs.Templates.{Delimiter, escaped_byte, is_quote, ends, begins_part}
 use Rattle.php_lex_laws.specs.Ranges.{AllIn}
 
 -- `\u{`

@@ -2,10 +2,10 @@
 use Rattle.std.specs.Prelude.{◌≡◌, ◌⊎◌, ℕ, ◌≤◌}
 use Rattle.php_lex.specs.declared.fail.LexFail.{LexFail}
 use Rattle.php_lex.specs.declared.fail.LexFail.TheVariants as Fail
-use Rattle.php_lex.specs.Bytes.{Text}
+use Rattle.php_lex_pieces.specs.Bytes.{Text}
 use Rattle.php_lex.specs.Modes.{Mode, outside, script, quotes, heredoc, braces, block, name_due, name_read, brackets, index, brace_due, subject, member_due, key_due, key_read}
 use Rattle.php_lex.specs.Pieces.{Piece}
-use Rattle.php_lex.specs.Templates.{quote, label}
+use Rattle.php_lex_pieces.specs.Templates.{quote, label}
 use Rattle.php_lex_laws.specs.OutsideForms.{OutsideForm, HasOutsideForm, outside_given}
 use Rattle.php_lex_laws.specs.PartForms.{SubjectForm, HasSubjectForm, subject_given, NameForm, HasNameForm, member_given, name_given, KeyForm, HasKeyForm, key_given, KeyEndForm, HasKeyEndForm, key_end_given, NameEndForm, HasNameEndForm, name_end_given, BraceEndForm, HasBraceEndForm, brace_end_given}
 use Rattle.php_lex_laws.specs.ScriptFaults.{ScriptFault, IsNoScriptPiece, script_fault}

@@ -2,12 +2,12 @@
 use Rattle.std.specs.Prelude.{◌≡◌, ℕ, ◌<◌, List, [], ◌∷◌, ◌++◌, length, Some, None}
 use Rattle.php_lex.specs.declared.fail.LexFail.{LexFail}
 use Rattle.php_lex.specs.declared.fail.LexFail.TheVariants.{Unclosed}
-use Rattle.php_lex.specs.Bytes.{Text}
+use Rattle.php_lex_pieces.specs.Bytes.{Text}
 use Rattle.php_lex.specs.Cut.{joined}
 use Rattle.php_lex.specs.Modes.{State, start, mode_of, unclosed, changed}
 use Rattle.php_lex.specs.Pieces.{Piece}
 use Rattle.php_lex.specs.Reading.{tokens_of, lines_after}
-use Rattle.php_lex.specs.Token.{Token}
+use Rattle.php_token.specs.Token.{Token}
 use Rattle.php_lex_laws.specs.Longest.{Form, given, IsPieceAt, IsFaultAt}
 
 -- these bytes, with more behind them, are the longest of a form of the mode, and give p

@@ -1,9 +1,9 @@
 -- The forms that a piece outside the tags may have.
 use Rattle.std.specs.Prelude.{◌≡◌, ◌⊎◌, ℕ, ◌<◌, ◌≤◌, true, length, slice_index, codes}
-use Rattle.php_lex.specs.declared.kind.Keyword.TheVariants as Keyword
-use Rattle.php_lex.specs.declared.kind.TokenKind.TheVariants as Kind
-use Rattle.php_lex.specs.Bytes.{Text, is_blank}
-use Rattle.php_lex.specs.Comments.{begins_echo, begins_tag, is_tag_name}
+use Rattle.php_token.specs.declared.kind.Keyword.TheVariants as Keyword
+use Rattle.php_token.specs.declared.kind.TokenKind.TheVariants as Kind
+use Rattle.php_lex_pieces.specs.Bytes.{Text, is_blank}
+use Rattle.php_lex_pieces.specs.Comments.{begins_echo, begins_tag, is_tag_name}
 use Rattle.php_lex.specs.Modes.{stay, leave}
 use Rattle.php_lex.specs.Pieces.{Piece, nothing, one, written}
 use Rattle.php_lex_laws.specs.Ranges.{NoneAt}

@@ -1,13 +1,13 @@
 -- The forms that a piece of a part without braces may have, and those of a part that `${` opens.
 use Rattle.std.specs.Prelude.{◌≡◌, ℕ, ◌+◌, ◌-◌, ◌<◌, Bool, true, false, take, drop, slice_index}
 use Rattle.std.specs.Char.{is_ascii_digit, is_ascii_hexdigit}
-use Rattle.php_lex.specs.declared.kind.Punct.TheVariants as Punct
-use Rattle.php_lex.specs.declared.kind.TokenKind.TheVariants as Kind
-use Rattle.php_lex.specs.Bytes.{Text, is_binary_digit}
+use Rattle.php_token.specs.declared.kind.Punct.TheVariants as Punct
+use Rattle.php_token.specs.declared.kind.TokenKind.TheVariants as Kind
+use Rattle.php_lex_pieces.specs.Bytes.{Text, is_binary_digit}
 use Rattle.php_lex.specs.Modes.{name_read, brackets, member_due, key_due, key_read, turn}
-use Rattle.php_lex.specs.Numbers.{int_key}
+use Rattle.php_lex_pieces.specs.Numbers.{int_key}
 use Rattle.php_lex.specs.Pieces.{Piece, one, written, part_end, last_written, number_key}
-use Rattle.php_lex.specs.Words.{word_kind}
+use Rattle.php_lex_pieces.specs.Words.{word_kind}
 use Rattle.php_lex_laws.specs.Ranges.{AllIn, IsName}
 use Rattle.php_lex_laws.specs.ScriptForms.{begins_hexadecimal, begins_binary}
 

@@ -1,6 +1,6 @@
 -- What the first bytes of a text are.
 use Rattle.std.specs.Prelude.{◌≡◌, [], ◌∷◌, ℕ, zero, suc, ◌<◌, Bool, true, false, ◌==◌, drop, slice_index}
-use Rattle.php_lex.specs.Bytes.{Text, is_name_start, is_name_byte}
+use Rattle.php_lex_pieces.specs.Bytes.{Text, is_name_start, is_name_byte}
 
 -- the first k bytes are of a class
 abbrev pub AllIn : (ℕ → Bool) → Text → ℕ → Type 0

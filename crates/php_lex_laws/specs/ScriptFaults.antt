@@ -3,10 +3,10 @@ use Rattle.std.specs.Prelude.{◌≡◌, ◌⊎◌, ℕ, ◌+◌, ◌<◌, Bool,
 use Rattle.std.specs.Char.{is_ascii_digit, is_ascii_hexdigit}
 use Rattle.php_lex.specs.declared.fail.LexFail.{LexFail}
 use Rattle.php_lex.specs.declared.fail.LexFail.TheVariants as Fail
-use Rattle.php_lex.specs.Bytes.{Text, is_octal_digit, is_binary_digit}
-use Rattle.php_lex.specs.Comments.{begins_comment, ends_block}
-use Rattle.php_lex.specs.Numbers.{value, greatest_int, goes_on_as_float}
-use Rattle.php_lex.specs.Templates.{closes}
+use Rattle.php_lex_pieces.specs.Bytes.{Text, is_octal_digit, is_binary_digit}
+use Rattle.php_lex_pieces.specs.Comments.{begins_comment, ends_block}
+use Rattle.php_lex_pieces.specs.Numbers.{value, greatest_int, goes_on_as_float}
+use Rattle.php_lex_pieces.specs.Templates.{closes}
 use Rattle.php_lex_laws.specs.Ranges.{AllIn, IsRaw}
 use Rattle.php_lex_laws.specs.ScriptForms.{Label, Opens, IsEmpty, name_of, begins_hexadecimal, begins_binary}
 

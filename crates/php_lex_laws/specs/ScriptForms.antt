@@ -3,19 +3,19 @@ use Rattle.std.specs.Prelude.{◌≡◌, ◌⊎◌, [], ◌∷◌, ℕ, ◌+◌,
 use Rattle.std.specs.Char.{is_ascii_digit, is_ascii_hexdigit}
 use Rattle.std.specs.List.{starts_with}
 use Rattle.std.specs.Str.{str_eq_ignore_ascii_case}
-use Rattle.php_lex.specs.declared.kind.Cast.{Cast}
-use Rattle.php_lex.specs.declared.kind.Keyword.TheVariants as Keyword
-use Rattle.php_lex.specs.declared.kind.Punct.{Punct}
-use Rattle.php_lex.specs.declared.kind.Punct.TheVariants as PunctKind
-use Rattle.php_lex.specs.declared.kind.TokenKind.TheVariants as Kind
-use Rattle.php_lex.specs.Bytes.{Text, is_blank, is_gap, is_name_byte, is_octal_digit, is_binary_digit, newline_len, line_end_len}
-use Rattle.php_lex.specs.Comments.{comment_start_len, ends_comment, begins_comment, ends_block, raw_value}
+use Rattle.php_token.specs.declared.kind.Cast.{Cast}
+use Rattle.php_token.specs.declared.kind.Keyword.TheVariants as Keyword
+use Rattle.php_token.specs.declared.kind.Punct.{Punct}
+use Rattle.php_token.specs.declared.kind.Punct.TheVariants as PunctKind
+use Rattle.php_token.specs.declared.kind.TokenKind.TheVariants as Kind
+use Rattle.php_lex_pieces.specs.Bytes.{Text, is_blank, is_gap, is_name_byte, is_octal_digit, is_binary_digit, newline_len, line_end_len}
+use Rattle.php_lex_pieces.specs.Comments.{comment_start_len, ends_comment, begins_comment, ends_block, raw_value}
 use Rattle.php_lex.specs.Modes.{Mode, outside, quotes, heredoc, stay, enter}
-use Rattle.php_lex.specs.Numbers.{value, greatest_int}
+use Rattle.php_lex_pieces.specs.Numbers.{value, greatest_int}
 use Rattle.php_lex.specs.Pieces.{Piece, nothing, one, written, integer, part_end, sign_change, is_part_end}
-use Rattle.php_lex.specs.Punctuators.{punctuators}
-use Rattle.php_lex.specs.Templates.{quote, label, is_label_line, closes, closing_len, text_value}
-use Rattle.php_lex.specs.Words.{cast_words, look_up, word_kind}
+use Rattle.php_lex_pieces.specs.Punctuators.{punctuators}
+use Rattle.php_lex_pieces.specs.Templates.{quote, label, is_label_line, closes, closing_len, text_value}
+use Rattle.php_lex_pieces.specs.Words.{cast_words, look_up, word_kind}
 use Rattle.php_lex_laws.specs.Escapes.{IsInside}
 use Rattle.php_lex_laws.specs.Ranges.{AllIn, NoneAt, FirstAt, IsName, IsRaw}
 

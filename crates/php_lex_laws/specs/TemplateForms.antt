@@ -3,11 +3,11 @@ use Rattle.std.specs.Prelude.{◌≡◌, ℕ, ◌+◌, ◌-◌, ◌<◌, true, f
 use Rattle.std.specs.Char.{is_ascii_hexdigit}
 use Rattle.php_lex.specs.declared.fail.LexFail.{LexFail}
 use Rattle.php_lex.specs.declared.fail.LexFail.TheVariants as Fail
-use Rattle.php_lex.specs.declared.kind.TokenKind.TheVariants as Kind
-use Rattle.php_lex.specs.Bytes.{Text}
+use Rattle.php_token.specs.declared.kind.TokenKind.TheVariants as Kind
+use Rattle.php_lex_pieces.specs.Bytes.{Text}
 use Rattle.php_lex.specs.Modes.{braces, name_due, subject, stay, enter, leave}
 use Rattle.php_lex.specs.Pieces.{Piece, draft, one, part_begin, goes_on, closing}
-use Rattle.php_lex.specs.Templates.{Delimiter, ends, text_value}
+use Rattle.php_lex_pieces.specs.Templates.{Delimiter, ends, text_value}
 use Rattle.php_lex_laws.specs.Escapes.{BeginsScalar, IsScalar, IsInside}
 use Rattle.php_lex_laws.specs.Ranges.{AllIn, IsName}
 

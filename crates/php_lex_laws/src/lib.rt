@@ -6,13 +6,13 @@ mod texts;
 
 ghost use Rattle.std.specs.Prelude.{◌≡◌, ◌⊎◌, ◌<◌, ◌≤◌, ℕ, List, length, Some, Ok, Err};
 ghost use Rattle.php_lex.specs.declared.fail.LexFail.{LexFail};
-ghost use Rattle.php_lex.specs.declared.kind.Punct.{Punct};
-ghost use Rattle.php_lex.specs.Bytes.{Text};
+ghost use Rattle.php_token.specs.declared.kind.Punct.{Punct};
+ghost use Rattle.php_lex_pieces.specs.Bytes.{Text};
 ghost use Rattle.php_lex.specs.Cut.{Cuts, Stops};
 ghost use Rattle.php_lex.specs.Modes.{Mode};
 ghost use Rattle.php_lex.specs.Pieces.{Piece, piece};
-ghost use Rattle.php_lex.specs.Punctuators.{punctuator, punctuators};
-ghost use Rattle.php_lex.specs.Token.{Token};
+ghost use Rattle.php_lex_pieces.specs.Punctuators.{punctuator, punctuators};
+ghost use Rattle.php_token.specs.Token.{Token};
 ghost use Rattle.php_lex_laws.specs.Longest.{Form, HasForm, given, IsPieceAt, IsFaultAt};
 ghost use Rattle.php_lex_laws.specs.LongestCut.{IsCut, IsStop};
 ghost use Rattle.php_lex_laws.specs.ScriptForms.{Matches};

@@ -1,6 +1,6 @@
 -- Failures further on.
 use Rattle.std.proofs.Common.{◌≡◌, ◌≤◌, ◌⊎◌, inl, ℕ, ◌+◌, ◌-◌, List, ◌∷◌, arith}
-use Rattle.php_lex.specs.Token.{Token}
+use Rattle.php_token.specs.Token.{Token}
 use Rattle.php_ast.specs.Symbol.{Symbol}
 use Rattle.php_grammar.specs.expression.Machine.{OpenForm, OpenForms, State, expects, least_power_at}
 use Rattle.php_grammar.specs.expression.Depth.{deepened}

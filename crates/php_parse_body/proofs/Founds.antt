@@ -1,6 +1,6 @@
 -- Answers behind what was read before.
 use Rattle.std.proofs.Common.{◌≡◌, ◌≢◌, ◌≤◌, ◌<◌, ℕ, true, false, Option, Some, None, Result, Ok, Err, List, [], ◌∷◌, refl, sym, ◌∙◌, ap, subst, arith}
-use Rattle.php_lex.specs.Token.{Token}
+use Rattle.php_token.specs.Token.{Token}
 use Rattle.php_ast.specs.Symbol.{Symbol}
 use Rattle.std.proofs.lemmas.Bool.{lt-ltb}
 use Rattle.php_ast.specs.declared.operator.ArrayForm.TheVariants as array_form

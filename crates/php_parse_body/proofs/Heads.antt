@@ -1,6 +1,6 @@
 -- What the first symbol behind an expression draws.
 use Rattle.std.proofs.Common.{◌≡◌, ◌≢◌, ◌≤◌, ◌<◌, ◌⊎◌, inl, inr, ℕ, List, refl, sym, ◌∙◌, ap, arith}
-use Rattle.php_lex.specs.Token.{Token}
+use Rattle.php_token.specs.Token.{Token}
 use Rattle.php_ast.specs.declared.operator.Assign.{Assign}
 use Rattle.php_ast.specs.declared.operator.Count.{Count}
 use Rattle.php_grammar.specs.expression.Sign.{Continuation, draws, closes, neither, continuation, strength_of, draw_strength}

@@ -9,7 +9,7 @@ use Rattle.php_ast.specs.declared.operator.Binary.TheVariants as binary_op
 use Rattle.php_ast.specs.declared.operator.Prefix.{Prefix}
 use Rattle.php_ast.specs.declared.operator.Count.{Count}
 use Rattle.php_ast.specs.Symbol.{Symbol}
-use Rattle.php_lex.specs.Token.{Token}
+use Rattle.php_token.specs.Token.{Token}
 use Rattle.php_ast.specs.expression.Tree.{Tree, Setting}
 use Rattle.php_ast.specs.expression.View.{Note}
 use Rattle.php_ast.specs.expression.Placed.{size, setting_size, noted, notes_of}

@@ -2,11 +2,11 @@
 use Rattle.std.proofs.Common.{◌≡◌, ◌≢◌, ◌≤◌, inl, ℕ, ◌-◌, Bool, true, false, Some, None, List, [], ◌∷◌, refl, sym, ◌∙◌, ap, arith}
 use Rattle.php_ast.specs.declared.operator.Binary.{Binary}
 use Rattle.php_ast.specs.declared.operator.Binary.TheVariants as binary
-use Rattle.php_lex.specs.declared.kind.Punct.{Punct}
+use Rattle.php_token.specs.declared.kind.Punct.{Punct}
 use Rattle.php_ast.specs.declared.operator.ArrayForm.{ArrayForm}
 use Rattle.php_ast.specs.declared.operator.ArrayForm.TheVariants as array_form
 use Rattle.php_ast.specs.Symbol.{Symbol, punct}
-use Rattle.php_lex.specs.declared.kind.Punct.TheVariants as mark
+use Rattle.php_token.specs.declared.kind.Punct.TheVariants as mark
 use Rattle.php_ast.specs.expression.Proper.{ends, is_none}
 use Rattle.php_ast.specs.expression.Tree.{Listing}
 use Rattle.php_ast.specs.expression.Tree.{Items, none, and, skip, Lead, plain, reference, spread, keyed, keyed_reference, listed, array, isset}

@@ -1,6 +1,6 @@
 -- Operators that wait for their right sides.
 use Rattle.std.proofs.Common.{◌≡◌, ◌≤◌, ◌<◌, ℕ, suc, min, true, Result, Ok, Err, List, [], ◌∷◌, ◌++◌, length, refl, sym, ◌∙◌, ap, subst, arith, inr}
-use Rattle.php_lex.specs.Token.{Token}
+use Rattle.php_token.specs.Token.{Token}
 use Rattle.php_ast.specs.Symbol.{Symbol}
 use Rattle.php_ast.specs.expression.Proper.{edge, ends, right}
 use Rattle.php_ast.specs.expression.View.{view}

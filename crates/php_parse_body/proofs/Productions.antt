@@ -1,6 +1,6 @@
 -- Operands.
 use Rattle.std.proofs.Common.{◌≡◌, ◌≢◌, ◌≤◌, inl, ℕ, ◌+◌, ◌-◌, Bool, true, false, Some, None, List, [], ◌∷◌, refl, ◌∙◌, ap, arith}
-use Rattle.php_lex.specs.Token.{Token}
+use Rattle.php_token.specs.Token.{Token}
 use Rattle.php_ast.specs.Symbol.{Symbol}
 use Rattle.php_ast.specs.expression.Proper.{ends}
 use Rattle.php_ast.specs.expression.Tree.{Tree, Leaf, Enclosure, parentheses, emptiness, exiting, leaf, enclosed, exit, exit_empty, static_member, colons, Member}
@@ -15,7 +15,7 @@ use Rattle.php_parse_body.specs.Walk.{Leads, Halts, Rests}
 use Rattle.php_parse_body.specs.declared.fail.Stop.{Stop}
 use Rattle.php_parse_body.specs.declared.fail.Stop.TheVariants.{Syntax, TooDeep, NoMemory}
 use Rattle.php_parse_body.specs.Answer.{Spans, Fails}
-use Rattle.php_lex.specs.declared.kind.Punct.TheVariants as mark
+use Rattle.php_token.specs.declared.kind.Punct.TheVariants as mark
 use Rattle.php_grammar.specs.expression.Machine.{instance_open}
 use Rattle.php_grammar.specs.expression.Depth.{depth_behind}
 use Rattle.php_ast.specs.Symbol.{punct}

@@ -1,6 +1,6 @@
 -- Suffixes.
 use Rattle.std.proofs.Common.{◌≡◌, ◌≢◌, ◌≤◌, ◌<◌, ℕ, ◌+◌, ◌-◌, true, false, Some, None, List, [], ◌∷◌, ◌++◌, map, refl, sym, ◌∙◌, ap, arith}
-use Rattle.php_lex.specs.Token.{Token}
+use Rattle.php_token.specs.Token.{Token}
 use Rattle.php_ast.specs.Symbol.{Symbol}
 use Rattle.php_ast.specs.expression.Proper.{ends}
 use Rattle.php_ast.specs.expression.Tree.{Tree, Member, append, index, selected, computed, call, Items, none, thin, colons, Arrow}

@@ -1,8 +1,8 @@
 -- Names of members.
 use Rattle.std.proofs.Common.{◌≡◌, ◌≢◌, ℕ, Bool, true, false, Option, Some, None, List, refl, ap, sym, ◌∙◌}
-use Rattle.php_lex.specs.declared.kind.Keyword as word
-use Rattle.php_lex.specs.declared.kind.Keyword.TheVariants as keyword
-use Rattle.php_lex.specs.Token.{Token, token_at}
+use Rattle.php_token.specs.declared.kind.Keyword as word
+use Rattle.php_token.specs.declared.kind.Keyword.TheVariants as keyword
+use Rattle.php_token.specs.Token.{Token, token_at}
 use Rattle.php_ast.specs.declared.spot.Spot.{Spot}
 use Rattle.php_ast.specs.declared.spot.Word.{Word}
 use Rattle.php_ast.specs.Symbol.{symbol}
@@ -12,7 +12,7 @@ use Rattle.php_ast.specs.expression.Placed.{notes_of}
 use Rattle.php_ast.specs.expression.Proper.{may_name}
 use Rattle.php_grammar.specs.expression.Sign.{Mark, item_mark, reserved_if}
 use Rattle.php_parse_body.specs.SignView.{IsMark}
-use Rattle.php_lex.specs.declared.kind.TokenKind.TheVariants.{Variable, Keyword}
+use Rattle.php_token.specs.declared.kind.TokenKind.TheVariants.{Variable, Keyword}
 use Rattle.php_ast.specs.declared.spot.Name.{Name}
 use Rattle.php_ast.specs.declared.expression.Member.TheVariants as member
 use Rattle.php_ast.specs.Symbol.{symbol_of}

@@ -1,7 +1,7 @@
 -- What climbing by powers has read: operators that wait for their right sides, one inside the other, and what was read
 -- since.
 use Rattle.std.specs.Prelude.{◌≡◌, ◌≤◌, ◌<◌, ℕ, ◌+◌, ◌-◌, ◌*◌, min, true, Result, Ok, Err, List, [], ◌∷◌, length}
-use Rattle.php_lex.specs.Token.{Token}
+use Rattle.php_token.specs.Token.{Token}
 use Rattle.php_ast.specs.Symbol.{Symbol}
 use Rattle.php_ast.specs.expression.Tree.{Tree}
 use Rattle.php_ast.specs.expression.Proper.{edge, ends, ends_bare, right}

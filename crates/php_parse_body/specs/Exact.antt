@@ -1,6 +1,6 @@
 -- What is answered of the expression that begins at a place.
 use Rattle.std.specs.Prelude.{◌≡◌, ◌≤◌, ◌<◌, ℕ, ◌+◌, ◌-◌, true, nat_lt, if◌then◌else◌, Some, None, List, [], ◌++◌, map, take, drop, length}
-use Rattle.php_lex.specs.Token.{Token, token_at}
+use Rattle.php_token.specs.Token.{Token, token_at}
 use Rattle.php_ast.specs.declared.expression.Expr.{Expr}
 use Rattle.php_ast.specs.Symbol.{Symbol, symbol}
 use Rattle.php_ast.specs.expression.Tree.{Tree}

@@ -1,14 +1,14 @@
 -- What is seen of the tokens from a place on.
 use Rattle.std.specs.Prelude.{◌≡◌, ◌≢◌, ◌<◌, ◌^◌, ℕ, ℤ, ◌+◌, Bool, true, false, Option, Some, None, List, [], ◌∷◌, map, drop, length}
-use Rattle.php_lex.specs.Token.{Token, token_at}
-use Rattle.php_lex.specs.declared.kind.Keyword.{Keyword}
-use Rattle.php_lex.specs.declared.kind.TokenKind.{TokenKind}
+use Rattle.php_token.specs.Token.{Token, token_at}
+use Rattle.php_token.specs.declared.kind.Keyword.{Keyword}
+use Rattle.php_token.specs.declared.kind.TokenKind.{TokenKind}
 use Rattle.php_ast.specs.Symbol.{Symbol, symbol, symbol_of}
 use Rattle.php_grammar.specs.expression.Sign.{Beginning, begins_nothing, is_yield, prefixes, beginning, Continuation, neither, continuation, Mark, begins, item_mark, word_of, member_of}
 use Rattle.php_ast.specs.declared.spot.Name.{Name}
 use Rattle.php_ast.specs.declared.spot.Word.{Word}
 use Rattle.php_ast.specs.declared.expression.Member as behind_colons
-use Rattle.php_lex.specs.declared.kind.Keyword.TheVariants as word
+use Rattle.php_token.specs.declared.kind.Keyword.TheVariants as word
 use Rattle.php_ast.specs.Symbol as sort
 use Rattle.php_ast.specs.expression.Tree.{Member, named, reserved, Class, class_name, class_static, class_found, from}
 use Rattle.php_ast.specs.expression.View.{note, word_view, member_view}

@@ -21,7 +21,7 @@ use Rattle.php_parse_body.specs.declared.sign.Mold as rust_mold
 use Rattle.php_parse_body.specs.declared.sign.Mold.TheVariants as mold
 use Rattle.php_ast.specs.expression.Tree.{Class, class_name, class_static, class_found, from}
 use Rattle.php_parse_body.specs.Seen.{Mold, is_bytes, is_opened, is_over, is_other, NoOperand, head_beginning, rest, Shows}
-use Rattle.php_lex.specs.Token.{Token, token_at}
+use Rattle.php_token.specs.Token.{Token, token_at}
 use Rattle.php_parse_body.specs.declared.sign.Next.{Next}
 use Rattle.php_parse_body.specs.declared.sign.Next.TheVariants as next
 

@@ -4,7 +4,7 @@ ghost use Rattle.std.specs.Prelude.{◌≡◌, ◌≤◌, ◌<◌, ◌+◌, ◌-
 ghost use Rattle.php_ast.specs.expression.Tree.{thin, class_found, from};
 ghost use Rattle.php_grammar.specs.expression.Sign as sign;
 ghost use Rattle.php_grammar.specs.expression.Sign.{beginning, continuation, draws};
-ghost use Rattle.php_lex.specs.Token.{token_at};
+ghost use Rattle.php_token.specs.Token.{token_at};
 ghost use Rattle.php_parse_body.specs.Answer.{AnswersLeaf, Ready};
 ghost use Rattle.php_parse_body.specs.ListAnswer.{AnswersClass, AnswersStep, SeesArguments, SeesStep};
 ghost use Rattle.php_parse_body.specs.Seen.{SeesClass, Shows, named_class};

@@ -2,7 +2,7 @@
 
 ghost use Rattle.std.specs.Prelude.{◌≡◌, ◌≢◌, ◌<◌, ◌^◌, ◌+◌, List, length, true, false, Some, None, [], map, drop, IfOk};
 ghost use Rattle.php_ast.specs.Symbol.{symbol};
-ghost use Rattle.php_lex.specs.Token.{token_at};
+ghost use Rattle.php_token.specs.Token.{token_at};
 ghost use Rattle.php_ast.specs.expression.Proper.{may_name};
 ghost use Rattle.php_grammar.specs.expression.Sign.{closes, continuation, refers, spreads, is_ampersand, is_colon, is_left_brace, is_paren, is_right_bracket, is_right_paren};
 ghost use Rattle.php_grammar.specs.expression.Laws.{head_continuation};
@@ -10,7 +10,7 @@ ghost use Rattle.php_ast.specs.expression.Placed.{notes_of};
 ghost use Rattle.php_ast.specs.expression.View.{note};
 ghost use Rattle.php_parse_body.specs.Seen.{Stands, Shows, rest, Follows, Starts, SeesMark, Tests, IsNamed, ShowsWord, ShowsMember, Words, head_member, head_word, SeesClass, SeesMold};
 ghost use Rattle.php_parse_body.specs.SignView.{SeesOpening};
-ghost use Rattle.php_lex.specs.declared.kind.TokenKind.TheVariants.{Int, Variable};
+ghost use Rattle.php_token.specs.declared.kind.TokenKind.TheVariants.{Int, Variable};
 ghost use Rattle.php_parse_body.specs.SignView.{next_view, closer_view, start_view, class_kind_view, mold_view};
 
 use crate::sign::{

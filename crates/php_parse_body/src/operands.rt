@@ -1,7 +1,7 @@
 // Operands without their suffixes.
 
 ghost use Rattle.std.specs.Prelude.{◌≡◌, ◌≤◌, ◌<◌, ◌+◌, ◌-◌, ℕ, length, true, false, IfOk};
-ghost use Rattle.php_lex.specs.Token.{token_at};
+ghost use Rattle.php_token.specs.Token.{token_at};
 ghost use Rattle.php_ast.specs.expression.Tree as tree;
 ghost use Rattle.php_grammar.specs.expression.Sign as sign;
 ghost use Rattle.php_grammar.specs.expression.Sign.{beginning, continuation};

@@ -1,7 +1,7 @@
 // Operators behind their left side.
 
 ghost use Rattle.std.specs.Prelude.{◌≡◌, ◌≤◌, ◌<◌, ◌+◌, ◌-◌, ℕ, length, true, false};
-ghost use Rattle.php_lex.specs.Token.{token_at};
+ghost use Rattle.php_token.specs.Token.{token_at};
 ghost use Rattle.php_ast.specs.expression.Tree.{colons};
 ghost use Rattle.php_ast.specs.expression.Nesting.{right_depth};
 ghost use Rattle.php_ast.specs.Power.{binary_row, choice_row, instance_row};

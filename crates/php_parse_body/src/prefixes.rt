@@ -1,7 +1,7 @@
 // What may stand wherever an operand may: an operand alone, counted or assigned, a prefix operator, `yield`.
 
 ghost use Rattle.std.specs.Prelude.{◌≡◌, ◌≤◌, ◌<◌, ◌+◌, ◌-◌, ◌^◌, ℕ, suc, length, true, false};
-ghost use Rattle.php_lex.specs.Token.{token_at};
+ghost use Rattle.php_token.specs.Token.{token_at};
 ghost use Rattle.php_ast.specs.expression.Tree.{colons};
 ghost use Rattle.php_ast.specs.Power.{assign_row, yield_power};
 ghost use Rattle.php_ast.specs.expression.Proper.{edge, right};

@@ -1,7 +1,7 @@
 // Suffixes of operands.
 
 ghost use Rattle.std.specs.Prelude.{◌≡◌, ◌≤◌, ◌<◌, ◌+◌, ◌-◌, ℕ, length, true, false};
-ghost use Rattle.php_lex.specs.Token.{token_at};
+ghost use Rattle.php_token.specs.Token.{token_at};
 ghost use Rattle.php_ast.specs.expression.Proper.{ends};
 ghost use Rattle.php_ast.specs.expression.Placed.{size};
 ghost use Rattle.php_grammar.specs.expression.Sign as sign;

@@ -1,6 +1,6 @@
 -- Flat expressions of one tree are the same, and so are two answers for the same tokens.
 use Rattle.std.proofs.Common.{◌≡◌, ◌<◌, ℕ, zero, suc, true, List, refl, sym, ◌∙◌, ap, subst, arith}
-use Rattle.php_lex.specs.Token.{Token}
+use Rattle.php_token.specs.Token.{Token}
 use Rattle.php_ast.specs.declared.expression.Expr.{Expr}
 use Rattle.php_ast.specs.declared.expression.Expr.TheViews.{roll-Expr}
 use Rattle.php_ast.specs.declared.expression.Expr.TheFolds.{ind-Expr}

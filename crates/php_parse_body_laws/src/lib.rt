@@ -3,7 +3,7 @@
 #![tactic(auto)]
 
 ghost use Rattle.std.specs.Prelude.{◌≡◌, true, ℕ, List};
-ghost use Rattle.php_lex.specs.Token.{Token};
+ghost use Rattle.php_token.specs.Token.{Token};
 ghost use Rattle.php_ast.specs.declared.expression.Expr.{Expr};
 ghost use Rattle.php_ast.specs.expression.View.{view};
 ghost use Rattle.php_parse_body.specs.Exact.{IsRead};

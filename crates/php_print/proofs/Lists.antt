@@ -4,7 +4,7 @@ use Rattle.std.specs.Prelude.{Result, OnOk, ◌==◌}
 use Rattle.php_ast.specs.declared.spot.Name as rust_name
 use Rattle.std.proofs.lemmas.Result.{on_ok_weaker}
 use Rattle.std.proofs.lemmas.List.{at_drop_more, at_drop_all}
-use Rattle.php_lex.specs.declared.kind.Punct.TheVariants as mark
+use Rattle.php_token.specs.declared.kind.Punct.TheVariants as mark
 use Rattle.php_ast.specs.declared.expression.Piece.{Piece}
 use Rattle.php_ast.specs.declared.expression.Piece.TheVariants as piece
 use Rattle.php_ast.specs.declared.expression.Item.{Item}
@@ -22,7 +22,7 @@ use Rattle.php_ast.specs.declared.expression.Link.TheVariants as link
 use Rattle.php_ast.specs.declared.statement.ElseIf.{ElseIf}
 use Rattle.php_ast.specs.declared.statement.Case.{Case}
 use Rattle.php_ast.specs.declared.statement.Catch.{Catch}
-use Rattle.php_lex.specs.declared.kind.Keyword.TheVariants as word
+use Rattle.php_token.specs.declared.kind.Keyword.TheVariants as word
 use Rattle.php_ast.specs.Symbol.{Symbol, keyword, punct}
 use Rattle.php_ast.specs.expression.Tree.{Tree, Items, none, and, skip, plain, Pieces, Steps}
 use Rattle.php_ast.specs.expression.Spelling.{spell, comma, spell_items, spell_pieces, spell_steps}
@@ -31,7 +31,7 @@ use Rattle.php_ast.specs.statement.Spelling.{commas, spell_name, sign_if, separa
 use Rattle.php_ast.specs.declaration.Spelling.{joined, spell_names, spell_member}
 use Rattle.php_print.specs.declaration.Elements.{spell_rules}
 use Rattle.php_ast.specs.declared.declaration.Rule as rust_rule
-use Rattle.php_lex.specs.declared.kind.Keyword.{Keyword}
+use Rattle.php_token.specs.declared.kind.Keyword.{Keyword}
 use Rattle.php_ast.specs.declaration.View.{rule_view, uses_view}
 use Rattle.php_ast.specs.statement.View.{optional, sequence, sequence_from, name_view, names_view, statements_from, list_view, elseifs_from, elseif_lists_from, cases_from, catches_from, if_view, if_lists_view, try_view}
 use Rattle.php_print.specs.statement.Elements.{spell_elseif, spell_elseif_list, spell_case, spell_braces, spell_catch, spell_else, spell_else_list, spell_finally}

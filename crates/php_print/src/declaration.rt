@@ -1,8 +1,8 @@
 // Prints signatures, functions, classes, interfaces and traits.
 
 ghost use Rattle.std.specs.Prelude.{◌∷◌, OnOk};
-ghost use Rattle.php_lex.specs.declared.kind.Keyword.TheVariants as word;
-ghost use Rattle.php_lex.specs.declared.kind.Punct.TheVariants as mark;
+ghost use Rattle.php_token.specs.declared.kind.Keyword.TheVariants as word;
+ghost use Rattle.php_token.specs.declared.kind.Punct.TheVariants as mark;
 ghost use Rattle.php_ast.specs.declaration.Spelling as spelling;
 ghost use Rattle.php_ast.specs.declaration.Tree as tree;
 ghost use Rattle.php_print.specs.Print.{Prints};
@@ -18,7 +18,7 @@ use php_ast::{
     TraitDecl, Type,
 };
 use php_base::NoMemory;
-use php_lex::{Keyword, Punct};
+use php_token::{Keyword, Punct};
 
 impl Printer {
     // ---- signatures

@@ -2,8 +2,8 @@
 // than the tree is nested.
 
 ghost use Rattle.std.specs.Prelude.{◌∷◌, map, OnOk};
-ghost use Rattle.php_lex.specs.declared.kind.Keyword.TheVariants as word;
-ghost use Rattle.php_lex.specs.declared.kind.Punct.TheVariants as mark;
+ghost use Rattle.php_token.specs.declared.kind.Keyword.TheVariants as word;
+ghost use Rattle.php_token.specs.declared.kind.Punct.TheVariants as mark;
 ghost use Rattle.php_print.specs.Print.{Prints, sign_symbols};
 ghost use Rattle.php_print.specs.expression.Elements.{
   spell_argument,
@@ -63,7 +63,7 @@ use php_ast::{
     Word,
 };
 use php_base::NoMemory;
-use php_lex::{Keyword, Punct};
+use php_token::{Keyword, Punct};
 
 impl Printer {
     /// Prints an expression.

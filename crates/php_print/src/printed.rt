@@ -1,6 +1,6 @@
 // Printed tokens.
 
-use php_lex::{Cast, Keyword, Punct};
+use php_token::{Cast, Keyword, Punct};
 use php_value::Text;
 
 /// A token of a printed tree.

@@ -12,7 +12,7 @@ ghost use Rattle.php_print.specs.Print.{printed_symbol, sign_symbol};
 
 use crate::printed::Printed;
 use php_ast::{Assign, Binary, Count, Magic, Prefix};
-use php_lex::{Cast, Keyword, Punct};
+use php_token::{Cast, Keyword, Punct};
 
 /// A token without a text or a value.
 #[derive(Clone, Copy, Debug)]

@@ -1,8 +1,8 @@
 // Prints statements without statements in them, and the heads of the others.
 
 ghost use Rattle.std.specs.Prelude.{◌∷◌, map, OnOk};
-ghost use Rattle.php_lex.specs.declared.kind.Keyword.TheVariants as word;
-ghost use Rattle.php_lex.specs.declared.kind.Punct.TheVariants as mark;
+ghost use Rattle.php_token.specs.declared.kind.Keyword.TheVariants as word;
+ghost use Rattle.php_token.specs.declared.kind.Punct.TheVariants as mark;
 ghost use Rattle.php_print.specs.Print.{Prints};
 ghost use Rattle.php_print.specs.statement.Elements.{spell_catch_head, spell_for_head, spell_foreach_head};
 ghost use Rattle.php_ast.specs.expression.Spelling.{spell, spell_items};
@@ -19,7 +19,7 @@ use php_ast::{
     CaseEnd, ConstantItem, Expr, ForHead, ForeachHead, Name, SwitchForm, Target, VariableItem,
 };
 use php_base::NoMemory;
-use php_lex::{Keyword, Punct};
+use php_token::{Keyword, Punct};
 
 impl Printer {
     /// Prints names, with a sign between each two.

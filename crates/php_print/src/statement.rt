@@ -2,8 +2,8 @@
 // than the statement is nested.
 
 ghost use Rattle.std.specs.Prelude.{◌∷◌, map, OnOk};
-ghost use Rattle.php_lex.specs.declared.kind.Keyword.TheVariants as word;
-ghost use Rattle.php_lex.specs.declared.kind.Punct.TheVariants as mark;
+ghost use Rattle.php_token.specs.declared.kind.Keyword.TheVariants as word;
+ghost use Rattle.php_token.specs.declared.kind.Punct.TheVariants as mark;
 ghost use Rattle.php_print.specs.Print.{Prints};
 ghost use Rattle.php_print.specs.statement.Elements as element;
 ghost use Rattle.php_ast.specs.statement.Spelling as spelling;
@@ -17,7 +17,7 @@ use crate::printer::Printer;
 use crate::signs::{COLON, ELSE, LEFT, LEFT_BRACE, RIGHT, RIGHT_BRACE, SEMICOLON, Sign};
 use php_ast::{Body, Case, Catch, ElseIf, Expr, Name, Stmt, SwitchForm};
 use php_base::NoMemory;
-use php_lex::{Keyword, Punct};
+use php_token::{Keyword, Punct};
 use sqlite_items::{Boxed, Items};
 
 impl Printer {

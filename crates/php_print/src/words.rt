@@ -1,6 +1,6 @@
 // How keywords, punctuators and casts are written.
 
-use php_lex::{Cast, Keyword, Punct};
+use php_token::{Cast, Keyword, Punct};
 
 /// A keyword in lower case, but for those between underscores.
 pub(crate) fn keyword_text(word: Keyword) -> &'static str {

@@ -1,6 +1,6 @@
 // Tokens of small trees.
 ghost use Rattle.std.specs.Prelude.{◌≡◌, [], ◌∷◌, length, map, IfOk};
-ghost use Rattle.php_lex.specs.declared.kind.Punct.TheVariants.{Semicolon};
+ghost use Rattle.php_token.specs.declared.kind.Punct.TheVariants.{Semicolon};
 ghost use Rattle.php_ast.specs.Operators.{binary_symbol};
 ghost use Rattle.php_print.specs.Print.{printed_symbol};
 ghost use Rattle.php_ast.specs.expression.Spelling.{spell};

@@ -3,8 +3,8 @@
 use super::*;
 use php_ast::{Binary, Expr, Piece, Spot};
 use php_base::NoMemory;
-use php_lex::{Cast, Keyword, Punct};
 use php_print::{Printed, lay_out, print_expr};
+use php_token::{Cast, Keyword, Punct};
 use php_value::Text;
 use sqlite_items::Items;
 use std::alloc::Global;

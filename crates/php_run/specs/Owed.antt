@@ -3,7 +3,7 @@ use Rattle.std.specs.Prelude.{◌≡◌, ◌≢◌, ℕ, ◌<◌, ◌≤◌, Lis
 use Rattle.php_lex.specs.declared.fail.LexFail.{LexFail}
 use Rattle.php_lex.specs.declared.fail.LexFail.TheVariants as fail
 use Rattle.php_lex.specs.Reading.{tokens}
-use Rattle.php_lex.specs.Token.{Token}
+use Rattle.php_token.specs.Token.{Token}
 use Rattle.php_run.specs.Words.{Request}
 use Rattle.php_run.specs.Answer.{Answer, no_file, no_tokens, too_long, usage}
 use Rattle.php_run.specs.Today.{IsOwedByTokens}

@@ -4,7 +4,7 @@ use Rattle.std.specs.Prelude.{◌≡◌, ℕ, Bool, true, ◌&&◌, not, nat_le,
 use Rattle.std.specs.List.{list_all}
 use Rattle.std.specs.Str.{bytes_eq}
 use Rattle.php_value.specs.declared.fault.Fault.TheVariants as fault
-use Rattle.php_lex.specs.Token as whole
+use Rattle.php_token.specs.Token as whole
 use Rattle.php_first_tree.specs.Expression.{Statement, statement_view}
 use Rattle.php_first_tree.specs.declared.Script.{Script}
 use Rattle.php_first_tokens.specs.declared.token.Token.{Token}

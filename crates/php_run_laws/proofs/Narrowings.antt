@@ -1,6 +1,6 @@
 -- The tokens of a script are those of the first language in at most one way.
 use Rattle.std.proofs.Common.{◌≡◌, List, Some, sym, ◌∙◌}
-use Rattle.php_lex.specs.Token as whole
+use Rattle.php_token.specs.Token as whole
 use Rattle.php_first_tokens.specs.declared.token.Token.{Token}
 use Rattle.php_first_tokens.specs.Lexemes.{AreFirst}
 

@@ -1,6 +1,6 @@
 -- To the words of a command line at most one answer is owed.
 use Rattle.std.proofs.Common.{◌≡◌, ℕ, List, Option, Some, None, sym, ◌∙◌, ap, subst, arith}
-use Rattle.php_lex.specs.Token as whole
+use Rattle.php_token.specs.Token as whole
 use Rattle.php_run.specs.Words.{Request}
 use Rattle.php_run.specs.Answer.{Answer, no_tokens}
 use Rattle.php_run.specs.Owed.{IsOwedFor, faulty, lexed, IsOwedOf, too_many, read, IsOwed}

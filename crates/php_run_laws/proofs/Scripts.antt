@@ -1,6 +1,6 @@
 -- The tokens of a file spell at most one script, and at most one answer is owed to them.
 use Rattle.std.proofs.Common.{◌≡◌, ℕ, List, sym, ◌∙◌, ap, subst}
-use Rattle.php_lex.specs.Token as whole
+use Rattle.php_token.specs.Token as whole
 use Rattle.php_first_tree.specs.Expression.{Statement}
 use Rattle.php_first_tokens.specs.declared.token.Token.{Token}
 use Rattle.php_first_parse.specs.Spelling.{IsSpelling}

@@ -6,7 +6,7 @@ ghost use Rattle.std.specs.Prelude.{◌≡◌, ◌≢◌, ℕ, ◌≤◌, List, 
 ghost use Rattle.php_first_tree.specs.Expression.{Statement};
 ghost use Rattle.php_first_tokens.specs.declared.token.Token.{Token};
 ghost use Rattle.php_first_tokens.specs.Lexemes.{AreFirst};
-ghost use Rattle.php_lex.specs.Token as whole;
+ghost use Rattle.php_token.specs.Token as whole;
 ghost use Rattle.php_first_run.specs.declared.value.Value.{Value};
 ghost use Rattle.php_first_run.specs.Running.{cut_off, run};
 ghost use Rattle.php_base.specs.Streams.{IsFront};

@@ -1,7 +1,7 @@
 -- Which token each note of a declaration and of a script is about: as in Placed, right notes take the place of
 -- those that a tree has, and a tree is placed where that changes nothing.
 use Rattle.std.specs.Prelude.{◌≡◌, ℕ, ◌+◌, Option, Some, None, List}
-use Rattle.php_lex.specs.Token.{Token}
+use Rattle.php_token.specs.Token.{Token}
 use Rattle.php_ast.specs.expression.Tree as tree
 use Rattle.php_ast.specs.expression.View.{Note}
 use Rattle.php_ast.specs.expression.Placed.{Notes, size, noted, noted_member, no_notes, notes_of}

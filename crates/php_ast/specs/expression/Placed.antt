@@ -4,7 +4,7 @@
 -- right notes in the place of those that a tree has, counting tokens from the left. A tree is placed
 -- where that changes nothing.
 use Rattle.std.specs.Prelude.{◌≡◌, ℕ, ◌+◌, List, []}
-use Rattle.php_lex.specs.Token.{Token, token_at}
+use Rattle.php_token.specs.Token.{Token, token_at}
 use Rattle.php_ast.specs.expression.Tree.{Enclosure, parentheses, Listing, array, Setting, by_value, by_reference, Member, named, reserved, held}
 use Rattle.php_ast.specs.declared.operator.ArrayForm.TheVariants as form
 use Rattle.php_ast.specs.expression.Tree.{Tree, leaf, template, enclosed, listed, exit, exit_empty, static_member, append, index, selected, computed, call, new, new_with, prefix, counted, binary, instance, static_instance, choice, short_choice, assign, yield_nothing, yield_value, yield_pair}

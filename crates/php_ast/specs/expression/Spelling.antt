@@ -1,7 +1,7 @@
 -- The spelling of an expression, in front of what follows it.
 use Rattle.std.specs.Prelude.{List, ◌∷◌}
-use Rattle.php_lex.specs.declared.kind.Keyword.TheVariants as word
-use Rattle.php_lex.specs.declared.kind.Punct.TheVariants as mark
+use Rattle.php_token.specs.declared.kind.Keyword.TheVariants as word
+use Rattle.php_token.specs.declared.kind.Punct.TheVariants as mark
 use Rattle.php_ast.specs.declared.operator.ArrayForm.TheVariants as form
 use Rattle.php_ast.specs.Symbol as symbol
 use Rattle.php_ast.specs.Symbol.{Symbol, keyword, punct}

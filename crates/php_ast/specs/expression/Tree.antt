@@ -4,7 +4,7 @@
 -- (`Note` in View), or nothing, where only the form counts. Runs that group from the left, suffixes,
 -- and lists grow at their end, so that each is built as its tokens are read.
 use Rattle.std.specs.Prelude.{ℕ, ℤ, List}
-use Rattle.php_lex.specs.declared.kind.Keyword.{Keyword}
+use Rattle.php_token.specs.declared.kind.Keyword.{Keyword}
 use Rattle.php_ast.specs.declared.operator.Binary.{Binary}
 use Rattle.php_ast.specs.declared.operator.Prefix.{Prefix}
 use Rattle.php_ast.specs.declared.operator.Count.{Count}

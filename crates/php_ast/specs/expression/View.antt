@@ -1,6 +1,6 @@
 -- From the expressions of the program to the trees of the grammar.
 use Rattle.std.specs.Prelude.{ℕ, List, [], ◌∷◌, Option, Some, None}
-use Rattle.php_lex.specs.declared.kind.Keyword.{Keyword}
+use Rattle.php_token.specs.declared.kind.Keyword.{Keyword}
 use Rattle.php_ast.specs.declared.spot.Spot.{Spot}
 use Rattle.php_ast.specs.declared.spot.Word.{Word}
 use Rattle.php_ast.specs.declared.expression.Expr.{Expr, fold-Expr}

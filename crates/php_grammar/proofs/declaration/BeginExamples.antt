@@ -1,7 +1,7 @@
 -- Examples of what symbols begin.
 use Rattle.std.proofs.Common.{None, [], ◌∷◌, refl}
-use Rattle.php_lex.specs.declared.kind.Keyword.TheVariants as word
-use Rattle.php_lex.specs.declared.kind.Punct.TheVariants as mark
+use Rattle.php_token.specs.declared.kind.Keyword.TheVariants as word
+use Rattle.php_token.specs.declared.kind.Punct.TheVariants as mark
 use Rattle.php_ast.specs.Symbol as symbol
 use Rattle.php_ast.specs.Symbol.{keyword, punct}
 use Rattle.php_ast.specs.expression.Tree.{variable, leaf}

@@ -1,8 +1,8 @@
 -- Examples of declarations and scripts, each by computing: the spelling of a script is read back to that script, the
 -- nesting counted at each symbol is that of the tree, and each note is about the right token.
 use Rattle.std.proofs.Common.{◌≡◌, ℕ, zero, suc, ◌+◌, true, false, Option, Some, None, [], ◌∷◌, refl, pos}
-use Rattle.php_lex.specs.declared.kind.Keyword.TheVariants as word
-use Rattle.php_lex.specs.declared.kind.Punct.TheVariants as mark
+use Rattle.php_token.specs.declared.kind.Keyword.TheVariants as word
+use Rattle.php_token.specs.declared.kind.Punct.TheVariants as mark
 use Rattle.php_ast.specs.declared.declaration.ModifierWord.{ModifierWord}
 use Rattle.php_ast.specs.declared.declaration.ModifierWord.TheVariants as modifier
 use Rattle.php_ast.specs.declared.declaration.ClassModifier.TheVariants as class_word

@@ -1,6 +1,6 @@
 -- Tokens spell at most one statement, signature and script with its notes.
 use Rattle.std.proofs.Common.{◌≡◌, ℕ, Option, Some, None, List, [], map, sym, ◌∙◌, ap}
-use Rattle.php_lex.specs.Token.{Token}
+use Rattle.php_token.specs.Token.{Token}
 use Rattle.php_ast.specs.Symbol.{Symbol, symbol}
 use Rattle.php_grammar.specs.expression.Machine.{Nothing}
 use Rattle.php_ast.specs.expression.View.{Note}

@@ -1,7 +1,7 @@
 -- The nesting that the machine of scripts counts is that of the tree.
 use Rattle.std.proofs.Common.{◌≡◌, ℕ, ◌+◌, Bool, Option, Some, None, List, [], ◌∷◌, refl, sym, ◌∙◌, ap}
-use Rattle.php_lex.specs.declared.kind.Keyword.TheVariants as word
-use Rattle.php_lex.specs.declared.kind.Punct.TheVariants as mark
+use Rattle.php_token.specs.declared.kind.Keyword.TheVariants as word
+use Rattle.php_token.specs.declared.kind.Punct.TheVariants as mark
 use Rattle.php_ast.specs.declared.declaration.ClassModifier.{ClassModifier}
 use Rattle.php_ast.specs.declared.declaration.ClassModifier.TheVariants as class_word
 use Rattle.php_ast.specs.Symbol as symbol

@@ -1,6 +1,6 @@
 -- Completeness of the machine of signatures.
 use Rattle.std.proofs.Common.{◌≡◌, Bool, true, false, Option, Some, None, List, [], ◌∷◌, refl, ◌∙◌}
-use Rattle.php_lex.specs.declared.kind.Punct.TheVariants as mark
+use Rattle.php_token.specs.declared.kind.Punct.TheVariants as mark
 use Rattle.php_ast.specs.Symbol.{Symbol, punct}
 use Rattle.php_grammar.specs.expression.Machine.{Nothing, Form, pick}
 use Rattle.php_grammar.specs.expression.Sign.{is_colon}

@@ -1,7 +1,7 @@
 -- Examples of spelling, of proper trees, of nesting and of reading, each by computing.
 use Rattle.std.proofs.Common.{◌≡◌, ℕ, pos, [], ◌∷◌, refl, arith}
-use Rattle.php_lex.specs.declared.kind.Keyword.TheVariants as word
-use Rattle.php_lex.specs.declared.kind.Punct.TheVariants as mark
+use Rattle.php_token.specs.declared.kind.Keyword.TheVariants as word
+use Rattle.php_token.specs.declared.kind.Punct.TheVariants as mark
 use Rattle.php_ast.specs.declared.operator.Binary.TheVariants as op
 use Rattle.php_ast.specs.declared.operator.Prefix.TheVariants as pre
 use Rattle.php_ast.specs.declared.operator.Assign.TheVariants as set

@@ -1,9 +1,9 @@
 -- Each form of expression by an example: its spelling, its reading, and the nesting of each of its tokens, as the tree
 -- and as the machine counts it.
 use Rattle.std.proofs.Common.{◌≡◌, ℕ, zero, suc, pos, Some, None, List, [], ◌∷◌, refl}
-use Rattle.php_lex.specs.declared.kind.Keyword.TheVariants as word
-use Rattle.php_lex.specs.declared.kind.Punct.TheVariants as mark
-use Rattle.php_lex.specs.declared.kind.Cast.TheVariants as to
+use Rattle.php_token.specs.declared.kind.Keyword.TheVariants as word
+use Rattle.php_token.specs.declared.kind.Punct.TheVariants as mark
+use Rattle.php_token.specs.declared.kind.Cast.TheVariants as to
 use Rattle.php_ast.specs.declared.operator.Binary.TheVariants as op
 use Rattle.php_ast.specs.declared.operator.Prefix.TheVariants as pre
 use Rattle.php_ast.specs.declared.operator.Count.TheVariants as count

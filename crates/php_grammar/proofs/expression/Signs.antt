@@ -1,11 +1,11 @@
 -- What a symbol is, from what it may do.
 use Rattle.std.proofs.Common.{◌≡◌, Bool, true, false, Option, Some, None, refl, ap}
-use Rattle.php_lex.specs.declared.kind.Keyword.{Keyword}
-use Rattle.php_lex.specs.declared.kind.Keyword.TheVariants as word
-use Rattle.php_lex.specs.declared.kind.Punct.{Punct}
-use Rattle.php_lex.specs.declared.kind.Punct.TheVariants as mark
-use Rattle.php_lex.specs.declared.kind.Cast.{Cast}
-use Rattle.php_lex.specs.declared.kind.Cast.TheVariants as to
+use Rattle.php_token.specs.declared.kind.Keyword.{Keyword}
+use Rattle.php_token.specs.declared.kind.Keyword.TheVariants as word
+use Rattle.php_token.specs.declared.kind.Punct.{Punct}
+use Rattle.php_token.specs.declared.kind.Punct.TheVariants as mark
+use Rattle.php_token.specs.declared.kind.Cast.{Cast}
+use Rattle.php_token.specs.declared.kind.Cast.TheVariants as to
 use Rattle.php_ast.specs.declared.operator.Binary.{Binary}
 use Rattle.php_ast.specs.declared.operator.Binary.TheVariants as binary
 use Rattle.php_ast.specs.declared.operator.Prefix.{Prefix}

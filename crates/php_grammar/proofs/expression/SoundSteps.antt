@@ -1,7 +1,7 @@
 -- Steps of the machine that keep it sound: closing forms, behind an expression, and where one is due.
 use Rattle.std.proofs.Common.{◌≡◌, ◌≤◌, ◌<◌, Bool, true, false, Option, Some, None, List, [], ◌∷◌, refl, sym, ◌∙◌, ap, arith, ltb-true}
 use Rattle.std.specs.Prelude.{nat_lt}
-use Rattle.php_lex.specs.declared.kind.Punct.TheVariants as mark
+use Rattle.php_token.specs.declared.kind.Punct.TheVariants as mark
 use Rattle.php_ast.specs.declared.operator.Assign.{Assign}
 use Rattle.php_ast.specs.declared.operator.Assign.TheVariants as setting
 use Rattle.php_ast.specs.declared.operator.ArrayForm.TheVariants as form

@@ -1,8 +1,8 @@
 -- Completeness of the machine of statements: it reads the spelling of a proper statement as that statement, in front of
 -- anything that doesn't go on with it.
 use Rattle.std.proofs.Common.{◌≡◌, true, false, Option, Some, None, List, [], ◌∷◌, refl, sym, ◌∙◌}
-use Rattle.php_lex.specs.declared.kind.Keyword.TheVariants as word
-use Rattle.php_lex.specs.declared.kind.Punct.TheVariants as mark
+use Rattle.php_token.specs.declared.kind.Keyword.TheVariants as word
+use Rattle.php_token.specs.declared.kind.Punct.TheVariants as mark
 use Rattle.php_ast.specs.declared.statement.SwitchForm.{SwitchForm}
 use Rattle.php_ast.specs.declared.statement.SwitchForm.TheVariants as switch_form
 use Rattle.php_ast.specs.declared.statement.CaseEnd.{CaseEnd}

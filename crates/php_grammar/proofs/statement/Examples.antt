@@ -1,7 +1,7 @@
 -- Examples of the spelling of statements and declarations, and of the nearest `if`, by computing.
 use Rattle.std.proofs.Common.{◌≡◌, ℕ, pos, true, false, Some, None, [], ◌∷◌, refl}
-use Rattle.php_lex.specs.declared.kind.Keyword.TheVariants as word
-use Rattle.php_lex.specs.declared.kind.Punct.TheVariants as mark
+use Rattle.php_token.specs.declared.kind.Keyword.TheVariants as word
+use Rattle.php_token.specs.declared.kind.Punct.TheVariants as mark
 use Rattle.php_ast.specs.declared.statement.SwitchForm.TheVariants as switch_form
 use Rattle.php_ast.specs.declared.statement.CaseEnd.TheVariants as case_end
 use Rattle.php_ast.specs.declared.declaration.ModifierWord.TheVariants as modifier

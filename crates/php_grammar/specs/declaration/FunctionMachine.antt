@@ -1,7 +1,7 @@
 -- A machine that reads a function or a method behind the word `function`. A function has a name and a block; the name of
 -- a method may be a keyword, and `;` may stand in place of its block.
 use Rattle.std.specs.Prelude.{Bool, true, false, Option, Some, None, List, [], ◌∷◌}
-use Rattle.php_lex.specs.declared.kind.Punct.TheVariants as mark
+use Rattle.php_token.specs.declared.kind.Punct.TheVariants as mark
 use Rattle.php_ast.specs.Symbol.{Symbol, punct}
 use Rattle.php_ast.specs.expression.Tree as tree
 use Rattle.php_grammar.specs.expression.Sign.{is_ampersand, is_left_brace, word_of}

@@ -1,6 +1,6 @@
 -- What holds of the reading of signatures, members and scripts, for every list of symbols and every tree.
 use Rattle.std.specs.Prelude.{◌≡◌, ℕ, ◌+◌, length, false, Option, Some, None, List, [], ◌∷◌, map}
-use Rattle.php_lex.specs.Token.{Token}
+use Rattle.php_token.specs.Token.{Token}
 use Rattle.php_ast.specs.Symbol.{Symbol, symbol}
 use Rattle.php_ast.specs.expression.View.{Note}
 use Rattle.php_grammar.specs.expression.Sign.{is_colon}

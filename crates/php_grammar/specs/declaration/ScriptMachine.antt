@@ -1,8 +1,8 @@
 -- A machine that reads a script: statements, functions, classes, interfaces and traits, one behind the other.
 use Rattle.std.specs.Prelude.{Option, Some, None, List, [], ◌∷◌}
-use Rattle.php_lex.specs.declared.kind.Keyword.{Keyword}
-use Rattle.php_lex.specs.declared.kind.Keyword.TheVariants as word
-use Rattle.php_lex.specs.declared.kind.Punct.TheVariants as mark
+use Rattle.php_token.specs.declared.kind.Keyword.{Keyword}
+use Rattle.php_token.specs.declared.kind.Keyword.TheVariants as word
+use Rattle.php_token.specs.declared.kind.Punct.TheVariants as mark
 use Rattle.php_ast.specs.declared.declaration.ClassModifier.{ClassModifier}
 use Rattle.php_ast.specs.declared.declaration.ClassModifier.TheVariants as class_word
 use Rattle.php_ast.specs.Symbol.{Symbol, keyword, punct}

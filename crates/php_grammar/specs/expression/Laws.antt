@@ -1,6 +1,6 @@
 -- What is proved of the grammar of expressions, for every list of symbols and every tree.
 use Rattle.std.specs.Prelude.{◌≡◌, ◌≢◌, ◌+◌, length, ℕ, true, false, List, [], ◌∷◌, ◌++◌, map}
-use Rattle.php_lex.specs.Token.{Token}
+use Rattle.php_token.specs.Token.{Token}
 use Rattle.php_ast.specs.Symbol.{Symbol, symbol}
 use Rattle.php_ast.specs.expression.Tree.{Tree}
 use Rattle.php_ast.specs.expression.Spelling.{spell}

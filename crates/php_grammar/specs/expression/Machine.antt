@@ -2,8 +2,8 @@
 -- are still open around it. Each symbol changes the state once, by what was read alone, so nothing is
 -- read twice and nothing is looked up ahead.
 use Rattle.std.specs.Prelude.{ℕ, suc, Bool, true, false, nat_lt, Option, Some, None, List, [], ◌∷◌}
-use Rattle.php_lex.specs.declared.kind.Keyword.TheVariants as word
-use Rattle.php_lex.specs.declared.kind.Punct.TheVariants as mark
+use Rattle.php_token.specs.declared.kind.Keyword.TheVariants as word
+use Rattle.php_token.specs.declared.kind.Punct.TheVariants as mark
 use Rattle.php_ast.specs.declared.operator.Binary.{Binary}
 use Rattle.php_ast.specs.declared.operator.Prefix.{Prefix}
 use Rattle.php_ast.specs.declared.operator.Assign.{Assign}

@@ -1,6 +1,6 @@
 -- The spelling of what may stand behind the names of a `use`.
 use Rattle.std.specs.Prelude.{Option, Some, None, List, ◌∷◌}
-use Rattle.php_lex.specs.declared.kind.Punct.TheVariants as mark
+use Rattle.php_token.specs.declared.kind.Punct.TheVariants as mark
 use Rattle.php_ast.specs.Symbol.{Symbol, punct}
 use Rattle.php_ast.specs.expression.View.{Note}
 use Rattle.php_ast.specs.statement.Tree.{Sequence}

@@ -1,7 +1,7 @@
 -- The spelling of one element of a list, and of a class behind `new`, in front of what follows.
 use Rattle.std.specs.Prelude.{List, ◌∷◌}
-use Rattle.php_lex.specs.declared.kind.Keyword.TheVariants as word
-use Rattle.php_lex.specs.declared.kind.Punct.TheVariants as mark
+use Rattle.php_token.specs.declared.kind.Keyword.TheVariants as word
+use Rattle.php_token.specs.declared.kind.Punct.TheVariants as mark
 use Rattle.php_ast.specs.declared.expression.Piece.{Piece}
 use Rattle.php_ast.specs.declared.expression.Piece.TheVariants as piece
 use Rattle.php_ast.specs.declared.expression.Item.{Item}

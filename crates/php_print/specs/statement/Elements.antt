@@ -1,7 +1,7 @@
 -- Parts of statements of the program with a function at each statement in them, and their spelling.
 use Rattle.std.specs.Prelude.{Option, Some, None, List, ◌∷◌, map}
-use Rattle.php_lex.specs.declared.kind.Keyword.TheVariants as word
-use Rattle.php_lex.specs.declared.kind.Punct.TheVariants as mark
+use Rattle.php_token.specs.declared.kind.Keyword.TheVariants as word
+use Rattle.php_token.specs.declared.kind.Punct.TheVariants as mark
 use Rattle.php_ast.specs.declared.statement.Stmt.{Stmt}
 use Rattle.php_ast.specs.declared.statement.ElseIf.{ElseIf}
 use Rattle.php_ast.specs.declared.statement.Body.{Body}
@@ -13,7 +13,7 @@ use Rattle.php_ast.specs.declared.statement.ForeachHead.{ForeachHead}
 use Rattle.php_ast.specs.declared.statement.SwitchForm.{SwitchForm}
 use Rattle.php_ast.specs.declared.expression.Expr.{Expr}
 use Rattle.php_ast.specs.declared.spot.Name as rust_name
-use Rattle.php_lex.specs.declared.kind.Keyword.{Keyword}
+use Rattle.php_token.specs.declared.kind.Keyword.{Keyword}
 use Rattle.php_ast.specs.expression.Spelling.{spell, spell_items}
 use Rattle.php_ast.specs.Symbol.{Symbol, keyword, punct}
 use Rattle.php_ast.specs.expression.View.{Note, view}

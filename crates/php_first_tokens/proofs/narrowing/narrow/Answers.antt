@@ -1,6 +1,6 @@
 use Rattle.std.proofs.Common.{◌≡◌, ◌<◌, ℕ, ◌+◌, List, [], ◌∷◌, ◌++◌, length, Some, sym, ◌∙◌, ap, subst, arith}
-use Rattle.php_lex.specs.Token as whole
-use Rattle.php_lex.specs.Token.{token_at}
+use Rattle.php_token.specs.Token as whole
+use Rattle.php_token.specs.Token.{token_at}
 use Rattle.php_first_tokens.specs.declared.token.Lexeme.{Lexeme}
 use Rattle.php_first_tokens.specs.declared.token.Token.{Token}
 use Rattle.php_first_tokens.specs.Lexemes.{lexeme_of, named_by}

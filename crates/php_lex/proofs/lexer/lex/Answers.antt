@@ -6,7 +6,7 @@ use Rattle.php_lex.specs.Reading.{put_before, read_from, tokens, tokens_of, line
 use Rattle.php_lex.proofs.CutLemmas.{CutTo, cut_starts, cut_more, cut_stops}
 use Rattle.php_lex.proofs.KeepLemmas.{none_within}
 use Rattle.php_lex.proofs.ReadingLemmas.{put_before-nil, read_more, read_faulty}
-use Rattle.php_lex.proofs.RunLemmas.{part}
+use Rattle.php_lex_pieces.proofs.RunLemmas.{part}
 use Rattle.php_lex.proofs.lexer.lex.Goals as goal
 
 pub loop-at-init : goal.loop-at-init

@@ -1,7 +1,7 @@
 use Rattle.std.proofs.Common.{◌≡◌, false, sym, ◌∙◌, arith}
-use Rattle.php_lex.specs.Comments.{begins_tag}
-use Rattle.php_lex.proofs.CommentLemmas.{no_tag}
-use Rattle.php_lex.proofs.RunLemmas.{len_before_some}
+use Rattle.php_lex_pieces.specs.Comments.{begins_tag}
+use Rattle.php_lex_pieces.proofs.CommentLemmas.{no_tag}
+use Rattle.php_lex_pieces.proofs.RunLemmas.{len_before_some}
 use Rattle.php_lex.proofs.pieces.outside_piece.Goals as goal
 
 pub returns-clause-within : goal.returns-clause-within

@@ -3,7 +3,7 @@ use Rattle.std.proofs.lemmas.Int.{to_z-of_z}
 use Rattle.php_lex.specs.declared.tokens.Entry.{Entry}
 use Rattle.php_lex.specs.Entry.{Adds}
 use Rattle.php_lex.specs.PieceKept.{text_kept}
-use Rattle.php_lex.specs.Token.{the_token}
+use Rattle.php_token.specs.Token.{the_token}
 use Rattle.php_lex.proofs.KeepLemmas.{pushed}
 use Rattle.php_lex.proofs.tokens.push.Goals as goal
 

@@ -1,5 +1,5 @@
 use Rattle.std.proofs.Common.{◌≡◌, ◌-◌, ◌≤◌, ◌++◌, false, length, drop}
-use Rattle.php_lex.specs.Comments.{raw_value}
+use Rattle.php_lex_pieces.specs.Comments.{raw_value}
 use Rattle.php_lex.proofs.tokens.push_raw.Given as goal
 
 abbrev pub invariant-loop-at : goal.invariant-loop-at

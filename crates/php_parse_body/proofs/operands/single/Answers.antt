@@ -1,5 +1,5 @@
 use Rattle.std.proofs.Common.{refl, arith}
-use Rattle.php_lex.specs.Token.{token_at}
+use Rattle.php_token.specs.Token.{token_at}
 use Rattle.php_ast.specs.expression.Tree.{leaf}
 use Rattle.php_parse_body.specs.SignView.{leaf_view}
 use Rattle.php_parse_body.proofs.Productions.{leaf_reads}

@@ -1,5 +1,5 @@
 use Rattle.std.proofs.Common.{◌+◌, ◌∙◌, refl, arith, ap, sym}
-use Rattle.php_lex.specs.Token.{token_at}
+use Rattle.php_token.specs.Token.{token_at}
 use Rattle.php_ast.specs.expression.Tree.{static_instance}
 use Rattle.php_parse_body.specs.SignView.{opening_view}
 use Rattle.php_parse_body.proofs.Joins.{instance_opens, static_instance_reads, no_operand, static_instance_spans, instance_rests}

@@ -1,5 +1,5 @@
 use Rattle.std.proofs.Common.{refl, arith, ap}
-use Rattle.php_lex.specs.Token.{token_at}
+use Rattle.php_token.specs.Token.{token_at}
 use Rattle.php_ast.specs.expression.Tree.{class_name, class_static}
 use Rattle.php_parse_body.proofs.Makes.{class_reads, class_halts, name_shown}
 use Rattle.php_parse_body.proofs.reader.Reader.class.Goals as goal

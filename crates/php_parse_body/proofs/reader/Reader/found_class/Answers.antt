@@ -1,7 +1,7 @@
 use Rattle.std.proofs.Common.{arith, ap}
 use Rattle.std.proofs.lemmas.Result.{err_from_is_err_and}
 use Rattle.php_parse_body.proofs.Fails.{later}
-use Rattle.php_lex.specs.Token.{token_at}
+use Rattle.php_token.specs.Token.{token_at}
 use Rattle.php_ast.specs.expression.Placed.{noted_steps, notes_of}
 use Rattle.php_ast.specs.expression.Tree.{class_found, from}
 use Rattle.php_ast.specs.expression.View.{steps_from}

@@ -1,5 +1,5 @@
 use Rattle.std.proofs.Common.{◌-◌, length}
-use Rattle.php_lex.specs.Token.{token_at}
+use Rattle.php_token.specs.Token.{token_at}
 use Rattle.php_parse_body.specs.ListAnswer.{StepsSoFar}
 use Rattle.php_parse_body.proofs.reader.Reader.found_class.Given as goal
 

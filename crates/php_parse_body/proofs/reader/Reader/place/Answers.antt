@@ -1,7 +1,7 @@
 use Rattle.std.proofs.Common.{◌∙◌, refl, arith, ap}
 use Rattle.std.proofs.lemmas.Result.{err_from_is_err_and}
 use Rattle.php_parse_body.proofs.Fails.{fewer}
-use Rattle.php_lex.specs.Token.{token_at}
+use Rattle.php_token.specs.Token.{token_at}
 use Rattle.php_grammar.specs.expression.Sign.{counts}
 use Rattle.php_ast.specs.expression.Tree.{counted}
 use Rattle.php_grammar.specs.expression.Machine.{holds, after, expects}

@@ -1,6 +1,6 @@
 use Rattle.std.proofs.Common.{◌∷◌, ◌++◌, map, length, ◌≤◌, sym, ◌∙◌, ap, arith, refl}
-use Rattle.php_lex.specs.declared.kind.Keyword.TheVariants as word
-use Rattle.php_lex.specs.declared.kind.Punct.TheVariants as mark
+use Rattle.php_token.specs.declared.kind.Keyword.TheVariants as word
+use Rattle.php_token.specs.declared.kind.Punct.TheVariants as mark
 use Rattle.php_ast.specs.Symbol as symbol
 use Rattle.php_ast.specs.expression.Tree.{array, none, no_piece, from}
 use Rattle.php_ast.specs.expression.Spelling.{spell, spell_steps, list_opening, list_closing}

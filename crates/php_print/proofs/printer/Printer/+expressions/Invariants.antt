@@ -1,5 +1,5 @@
 use Rattle.std.proofs.Common.{◌≡◌, ◌+◌, ◌*◌, List, ◌∷◌, ◌++◌, map, drop}
-use Rattle.php_lex.specs.declared.kind.Punct.TheVariants as mark
+use Rattle.php_token.specs.declared.kind.Punct.TheVariants as mark
 use Rattle.php_ast.specs.Symbol.{Symbol, quote, punct}
 use Rattle.php_ast.specs.expression.Tree.{array, none, no_piece, from}
 use Rattle.php_ast.specs.expression.Spelling.{list_opening, spell, spell_items, spell_pieces, spell_steps}

@@ -1,5 +1,5 @@
 use Rattle.std.proofs.Common.{◌++◌, map, length, ◌≤◌, sym, ap, arith}
-use Rattle.php_lex.specs.declared.kind.Punct.TheVariants as mark
+use Rattle.php_token.specs.declared.kind.Punct.TheVariants as mark
 use Rattle.php_ast.specs.Symbol as symbol
 use Rattle.php_ast.specs.statement.Tree.{empty}
 use Rattle.php_ast.specs.declaration.Spelling.{spell_class_constant}

@@ -1,0 +1,9 @@
+pub mod Bytes
+pub mod Comments
+pub mod Delimiters
+pub mod Heredocs
+pub mod Numbers
+pub mod Punctuators
+pub mod Search
+pub mod Templates
+pub mod Words

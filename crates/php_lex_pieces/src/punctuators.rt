@@ -1,0 +1,211 @@
+// Punctuators.
+
+ghost use Rattle.std.specs.Prelude.{◌≡◌, ◌<◌, ◌≤◌, length, map, IfSome};
+ghost use Rattle.php_lex_pieces.specs.Punctuators as spec;
+
+use crate::bytes::byte;
+use php_token::Punct;
+
+type Row = (&'static [u8], Punct);
+
+// Each one stands before those that it begins with.
+const PUNCTUATORS: [Row; 57] = [
+    (b"===", Punct::Identical),
+    (b"!==", Punct::NotIdentical),
+    (b"<=>", Punct::Spaceship),
+    (b"**=", Punct::PowerAssign),
+    (b"<<=", Punct::ShiftLeftAssign),
+    (b">>=", Punct::ShiftRightAssign),
+    (b"...", Punct::Ellipsis),
+    (b"->", Punct::Arrow),
+    (b"++", Punct::PlusPlus),
+    (b"--", Punct::MinusMinus),
+    (b"**", Punct::StarStar),
+    (b"<<", Punct::ShiftLeft),
+    (b">>", Punct::ShiftRight),
+    (b"<=", Punct::LessEqual),
+    (b">=", Punct::GreaterEqual),
+    (b"==", Punct::EqualEqual),
+    (b"!=", Punct::NotEqual),
+    (b"<>", Punct::LessGreater),
+    (b"&&", Punct::AndAnd),
+    (b"||", Punct::BarBar),
+    (b"*=", Punct::StarAssign),
+    (b"/=", Punct::SlashAssign),
+    (b"%=", Punct::PercentAssign),
+    (b"+=", Punct::PlusAssign),
+    (b"-=", Punct::MinusAssign),
+    (b".=", Punct::DotAssign),
+    (b"&=", Punct::AmpersandAssign),
+    (b"^=", Punct::CaretAssign),
+    (b"|=", Punct::BarAssign),
+    (b"??", Punct::QuestionQuestion),
+    (b"=>", Punct::DoubleArrow),
+    (b"::", Punct::DoubleColon),
+    (b"[", Punct::LeftBracket),
+    (b"]", Punct::RightBracket),
+    (b"(", Punct::LeftParen),
+    (b")", Punct::RightParen),
+    (b"{", Punct::LeftBrace),
+    (b"}", Punct::RightBrace),
+    (b".", Punct::Dot),
+    (b"*", Punct::Star),
+    (b"+", Punct::Plus),
+    (b"-", Punct::Minus),
+    (b"~", Punct::Tilde),
+    (b"!", Punct::Bang),
+    (b"/", Punct::Slash),
+    (b"%", Punct::Percent),
+    (b"<", Punct::Less),
+    (b">", Punct::Greater),
+    (b"^", Punct::Caret),
+    (b"|", Punct::Bar),
+    (b"&", Punct::Ampersand),
+    (b"?", Punct::Question),
+    (b":", Punct::Colon),
+    (b";", Punct::Semicolon),
+    (b"=", Punct::Assign),
+    (b",", Punct::Comma),
+    (b"@", Punct::At),
+];
+
+// Those that begin with one byte, in the same order.
+const EQUALS: [Row; 4] = [
+    (b"===", Punct::Identical),
+    (b"==", Punct::EqualEqual),
+    (b"=>", Punct::DoubleArrow),
+    (b"=", Punct::Assign),
+];
+
+const BANGS: [Row; 3] = [
+    (b"!==", Punct::NotIdentical),
+    (b"!=", Punct::NotEqual),
+    (b"!", Punct::Bang),
+];
+
+const LESSES: [Row; 6] = [
+    (b"<=>", Punct::Spaceship),
+    (b"<<=", Punct::ShiftLeftAssign),
+    (b"<<", Punct::ShiftLeft),
+    (b"<=", Punct::LessEqual),
+    (b"<>", Punct::LessGreater),
+    (b"<", Punct::Less),
+];
+
+const STARS: [Row; 4] = [
+    (b"**=", Punct::PowerAssign),
+    (b"**", Punct::StarStar),
+    (b"*=", Punct::StarAssign),
+    (b"*", Punct::Star),
+];
+
+const GREATERS: [Row; 4] = [
+    (b">>=", Punct::ShiftRightAssign),
+    (b">>", Punct::ShiftRight),
+    (b">=", Punct::GreaterEqual),
+    (b">", Punct::Greater),
+];
+
+const DOTS: [Row; 3] = [
+    (b"...", Punct::Ellipsis),
+    (b".=", Punct::DotAssign),
+    (b".", Punct::Dot),
+];
+
+const MINUSES: [Row; 4] = [
+    (b"->", Punct::Arrow),
+    (b"--", Punct::MinusMinus),
+    (b"-=", Punct::MinusAssign),
+    (b"-", Punct::Minus),
+];
+
+const PLUSES: [Row; 3] = [
+    (b"++", Punct::PlusPlus),
+    (b"+=", Punct::PlusAssign),
+    (b"+", Punct::Plus),
+];
+
+const AMPERSANDS: [Row; 3] = [
+    (b"&&", Punct::AndAnd),
+    (b"&=", Punct::AmpersandAssign),
+    (b"&", Punct::Ampersand),
+];
+
+const BARS: [Row; 3] = [
+    (b"||", Punct::BarBar),
+    (b"|=", Punct::BarAssign),
+    (b"|", Punct::Bar),
+];
+
+const SLASHES: [Row; 2] = [(b"/=", Punct::SlashAssign), (b"/", Punct::Slash)];
+
+const QUESTIONS: [Row; 2] = [(b"??", Punct::QuestionQuestion), (b"?", Punct::Question)];
+
+const COLONS: [Row; 2] = [(b"::", Punct::DoubleColon), (b":", Punct::Colon)];
+
+const LEFT_BRACKET: [Row; 1] = [(b"[", Punct::LeftBracket)];
+
+const RIGHT_BRACKET: [Row; 1] = [(b"]", Punct::RightBracket)];
+
+const LEFT_PAREN: [Row; 1] = [(b"(", Punct::LeftParen)];
+
+const RIGHT_PAREN: [Row; 1] = [(b")", Punct::RightParen)];
+
+const LEFT_BRACE: [Row; 1] = [(b"{", Punct::LeftBrace)];
+
+const RIGHT_BRACE: [Row; 1] = [(b"}", Punct::RightBrace)];
+
+const SEMICOLON: [Row; 1] = [(b";", Punct::Semicolon)];
+
+const COMMA: [Row; 1] = [(b",", Punct::Comma)];
+
+fn first_in(mut table: &[Row], text: &[u8]) -> Option<(Punct, usize)>
+    ensures value { result ≡ spec.first_in (map (λ row. (row.0.now, row.1)) table.entry.now) text.now }
+    ensures within { IfSome result (λ found. found.1 ≤ length text.now) }
+{
+    while let [row, rest @ ..] = table {
+        if text.starts_with(row.0) {
+            return Some((row.1, row.0.len()));
+        }
+        table = rest;
+    }
+    None
+}
+
+// Those with which the text may begin, where its first byte is a common sign, and else all.
+fn rows_for(text: &[u8]) -> &'static [Row]
+    ensures { spec.first_in (map (λ row. (row.0.now, row.1)) result.now) text.now ≡ spec.punctuator text.now }
+{
+    match byte(text, 0) {
+        b'=' => &EQUALS,
+        b'!' => &BANGS,
+        b'<' => &LESSES,
+        b'*' => &STARS,
+        b'>' => &GREATERS,
+        b'.' => &DOTS,
+        b'-' => &MINUSES,
+        b'+' => &PLUSES,
+        b'&' => &AMPERSANDS,
+        b'|' => &BARS,
+        b'/' => &SLASHES,
+        b'?' => &QUESTIONS,
+        b':' => &COLONS,
+        b'[' => &LEFT_BRACKET,
+        b']' => &RIGHT_BRACKET,
+        b'(' => &LEFT_PAREN,
+        b')' => &RIGHT_PAREN,
+        b'{' => &LEFT_BRACE,
+        b'}' => &RIGHT_BRACE,
+        b';' => &SEMICOLON,
+        b',' => &COMMA,
+        _ => &PUNCTUATORS,
+    }
+}
+
+/// The longest punctuator with which the text begins, and its length.
+pub fn punctuator(text: &[u8]) -> Option<(Punct, usize)>
+    ensures value { result ≡ spec.punctuator text.now }
+    ensures within { IfSome result (λ found. (0 < found.1) × (found.1 ≤ length text.now)) }
+{
+    first_in(rows_for(text), text)
+}
