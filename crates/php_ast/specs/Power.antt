@@ -44,8 +44,8 @@ binary_row binary.Compared = row 24 ungrouped
 binary_row binary.BitAnd = row 22 to_left
 binary_row binary.BitXor = row 20 to_left
 binary_row binary.BitOr = row 18 to_left
-binary_row binary.And = row 16 to_left
-binary_row binary.Or = row 14 to_left
+binary_row binary.LogicalAnd = row 16 to_left
+binary_row binary.LogicalOr = row 14 to_left
 binary_row binary.Coalesced = row 12 to_right
 binary_row binary.WordAnd = row 6 to_left
 binary_row binary.WordXor = row 4 to_left
@@ -55,8 +55,8 @@ binary_row binary.WordOr = row 2 to_left
 abbrev pub choice_row : Row
 choice_row = row 10 to_left
 
-abbrev pub instance_row : Row
-instance_row = row 36 ungrouped
+abbrev pub instance_of_row : Row
+instance_of_row = row 36 ungrouped
 
 -- `=` and the operators with `=`
 abbrev pub assign_row : Row

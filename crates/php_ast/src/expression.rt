@@ -52,7 +52,7 @@ pub enum Expr {
     /// A prefix operator and its operand.
     Prefix(Spot, Prefix, Boxed<Expr>),
     /// `operand++` or `operand--`
-    Counted(Boxed<Expr>, Count),
+    Count(Boxed<Expr>, Count),
     /// Operators of one power that groups from the left: the first operand, then one link or more.
     Run(Boxed<Self>, Items<Link<Self>>),
     /// An operator whose power groups from the right or not at all.

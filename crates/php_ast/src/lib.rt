@@ -17,7 +17,7 @@ pub use expression::{Argument, Class, ClassStep, Expr, Item, Link, Member, Named
 pub use operator::{ArrayForm, Assign, Binary, Count, Magic, Prefix};
 pub use power::{
     Grouping, Row, power_of_yield, prefix_power_of, row_of, row_of_assignment, row_of_choice,
-    row_of_instanceof,
+    row_of_instance_of,
 };
 pub use script::{Script, ScriptItem};
 pub use spot::{Name, Spot, Word};

@@ -48,9 +48,9 @@ pub enum Binary {
     /// `|`
     BitOr,
     /// `&&`
-    And,
+    LogicalAnd,
     /// `||`
-    Or,
+    LogicalOr,
     /// `??`
     Coalesced,
     /// `and`

@@ -1,7 +1,7 @@
 // The table of powers: how tightly operators bind.
 
 ghost use Rattle.std.specs.Prelude.{◌≡◌};
-ghost use Rattle.php_ast.specs.Power.{assign_row, binary_row, choice_row, instance_row, prefix_power, yield_power};
+ghost use Rattle.php_ast.specs.Power.{assign_row, binary_row, choice_row, instance_of_row, prefix_power, yield_power};
 ghost use Rattle.php_ast.specs.PowerView.{row_view};
 
 use crate::operator::{Binary, Prefix};
@@ -43,8 +43,8 @@ pub fn row_of(op: Binary) -> Row
         Binary::BitAnd => to_left(22),
         Binary::BitXor => to_left(20),
         Binary::BitOr => to_left(18),
-        Binary::And => to_left(16),
-        Binary::Or => to_left(14),
+        Binary::LogicalAnd => to_left(16),
+        Binary::LogicalOr => to_left(14),
         Binary::Coalesced => to_right(12),
         Binary::WordAnd => to_left(6),
         Binary::WordXor => to_left(4),
@@ -60,8 +60,8 @@ pub fn row_of_choice() -> Row
 }
 
 /// The row of `instanceof`.
-pub fn row_of_instanceof() -> Row
-    ensures { row_view result ≡ instance_row }
+pub fn row_of_instance_of() -> Row
+    ensures { row_view result ≡ instance_of_row }
 {
     ungrouped(36)
 }

@@ -4,7 +4,7 @@ use Rattle.std.proofs.Common.{◌≡◌, Bool, true, false, Option, Some, None, 
 use Rattle.php_ast.specs.Symbol.{Symbol}
 use Rattle.php_ast.specs.expression.Spelling.{spell}
 use Rattle.php_ast.specs.expression.Proper.{Proper}
-use Rattle.php_grammar.specs.expression.Machine.{Form, instance_open, OpenForms, State, expects, holds, holds_call, due_enclosed, due_listed, past_static, past_yield, missing_end, advance, Reading, halt_static, is_last, halt_yield, halt, or_halt, read_from}
+use Rattle.php_grammar.specs.expression.Machine.{Form, instance_of_open, OpenForms, State, expects, holds, holds_call, due_enclosed, due_listed, past_static, past_yield, missing_end, advance, Reading, halt_static, is_last, halt_yield, halt, or_halt, read_from}
 use Rattle.php_grammar.specs.expression.Laws.{EndsBefore}
 use Rattle.php_grammar.specs.Run.{either, if_some, ReadingOf, if_nothing, or_halted, run_of, whole_before, through_expression}
 use Rattle.php_grammar.proofs.expression.LawProofs.{halt_unread, reads_back}
@@ -17,7 +17,7 @@ record Alike (a b : Reading) : Type 0 where
 
 static_alike : (s : OpenForms) (v w : List Symbol) → Alike (halt_static s v) (halt_static s w)
 static_alike [] v w = record { tree = refl; missing = refl }
-static_alike (instance_open l ∷ s) v w = record { tree = refl; missing = refl }
+static_alike (instance_of_open l ∷ s) v w = record { tree = refl; missing = refl }
 static_alike (f ∷ s) v w = record { tree = refl; missing = refl }
 
 yield_alike : (b : Bool) (s : OpenForms) (v w : List Symbol) → Alike (halt_yield b s v) (halt_yield b s w)

@@ -1,6 +1,6 @@
 mod Examples
 mod FormExamples
-pub mod Signs
+pub mod Roles
 pub mod Sound
 pub mod Fill
 pub mod Settle

@@ -1,4 +1,4 @@
-pub mod Sign
+pub mod Role
 pub mod Machine
 pub mod Depth
 pub mod Laws

@@ -1,7 +1,7 @@
 -- A form has no notes: noting nothing of its tokens leaves it as it is.
 use Rattle.std.proofs.Common.{◌≡◌, ℕ, ◌+◌, refl, ◌∙◌, ap}
 use Rattle.php_ast.specs.expression.Tree.{Member, named, reserved, held}
-use Rattle.php_ast.specs.expression.Tree.{leaf, template, enclosed, listed, exit, exit_empty, static_member, append, index, selected, computed, call, new, new_with, prefix, counted, binary, instance, static_instance, choice, short_choice, assign, yield_nothing, yield_value, yield_pair}
+use Rattle.php_ast.specs.expression.Tree.{leaf, template, enclosed, listed, exit, exit_empty, static_member, append, index, selected, computed, call, new, new_with, prefix, count, binary, instance_of, instance_of_static, choice, short_choice, assign, yield_nothing, yield_value, yield_pair}
 use Rattle.php_ast.specs.expression.Tree.{Items, none, and, skip, Lead, plain, reference, spread, keyed, keyed_reference, Pieces, no_piece, bytes, value, Class, class_name, class_static, class_found, Steps, from, step_property, step_index}
 use Rattle.php_ast.specs.expression.Placed.{size, size_items, size_lead, size_pieces, size_class, size_steps, comma_size, setting_size, no_notes, noted, noted_member, noted_items, noted_lead, noted_pieces, noted_class, noted_steps}
 use Rattle.php_grammar.specs.expression.Machine.{Nothing, Form}
@@ -28,10 +28,10 @@ mutual
   blank k (new spot class) = ap (new tt) (blank_class _ class)
   blank k (new_with spot class items) = ap (λ x. new_with tt x (noted_items no_notes (k + 1 + size_class class + 1) items)) (blank_class (k + 1) class) ∙ ap (new_with tt class) (blank_items (k + 1 + size_class class + 1) items)
   blank k (prefix spot op e) = ap (prefix tt op) (blank _ e)
-  blank k (counted e count) = ap (λ x. counted x count) (blank k e)
+  blank k (count e way) = ap (λ x. count x way) (blank k e)
   blank k (binary op l r) = ap (λ x. binary op x (noted no_notes (k + size l + 1) r)) (blank k l) ∙ ap (binary op l) (blank _ r)
-  blank k (instance l r) = ap (λ x. instance x (noted no_notes (k + size l + 1) r)) (blank k l) ∙ ap (instance l) (blank _ r)
-  blank k (static_instance l spot) = ap (λ x. static_instance x tt) (blank k l)
+  blank k (instance_of l r) = ap (λ x. instance_of x (noted no_notes (k + size l + 1) r)) (blank k l) ∙ ap (instance_of l) (blank _ r)
+  blank k (instance_of_static l spot) = ap (λ x. instance_of_static x tt) (blank k l)
   blank k (choice c a b) = ap (λ x. choice x (noted no_notes (k + size c + 1) a) (noted no_notes (k + size c + 1 + size a + 1) b)) (blank k c) ∙ ap (λ x. choice c x (noted no_notes (k + size c + 1 + size a + 1) b)) (blank _ a) ∙ ap (choice c a) (blank _ b)
   blank k (short_choice c b) = ap (λ x. short_choice x (noted no_notes (k + size c + 2) b)) (blank k c) ∙ ap (short_choice c) (blank _ b)
   blank k (assign how l r) = ap (λ x. assign how x (noted no_notes (k + size l + setting_size how) r)) (blank k l) ∙ ap (assign how l) (blank _ r)

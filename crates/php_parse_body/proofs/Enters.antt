@@ -3,13 +3,13 @@ use Rattle.std.proofs.Common.{◌≡◌, ◌≢◌, ℕ, ◌+◌, Bool, true, fa
 use Rattle.std.specs.Prelude.{nat_lt}
 use Rattle.php_ast.specs.declared.operator.Assign.TheVariants as setting
 use Rattle.php_ast.specs.Symbol.{Symbol}
-use Rattle.php_ast.specs.expression.Tree.{Items, skip, plain, keyed, keyed_reference, reference, spread, Class, class_name, class_static, class_found, exiting, exit, exit_empty, append, new, static_instance, by_value, by_reference, thin, colons, yield_nothing}
-use Rattle.php_grammar.specs.expression.Sign as sign
-use Rattle.php_grammar.specs.expression.Sign.{Beginning, begins_nothing, beginning, Continuation, draws, closes, neither, continuation, strength_of, ends_yield, applies, subscripts, selects, Mark, refers, spreads, ends_item, begins, item_mark, is_ampersand, is_paren, is_right_paren, is_right_bracket, is_colon}
-use Rattle.php_grammar.specs.expression.Machine.{Form, Holder, is_array, is_arguments, has_paren, may_end, enclosed_open, items_open, index_open, then_open, assign_open, short_open, yield_open, instance_open, OpenForms, State, expects, holds, past_items, past_value, past_exit, past_exit_paren, past_index, past_question, past_assign, past_class, past_static, past_yield, goes_on, start, item_step, ended_by, class_step, static_step, allowed_if, pick, advance, halt, halt_yield, halt_whole, is_last, missing_end, completed_all, closed_with, ended_items, after}
+use Rattle.php_ast.specs.expression.Tree.{Items, skip, plain, keyed, keyed_reference, reference, spread, Class, class_name, class_static, class_found, exiting, exit, exit_empty, append, new, instance_of_static, by_value, by_reference, thin, colons, yield_nothing}
+use Rattle.php_grammar.specs.expression.Role as role
+use Rattle.php_grammar.specs.expression.Role.{Beginning, at_nothing, beginning, Continuation, draws, closes, neither, continuation, strength_of, ends_yield, by_call, by_index, by_select, Mark, refers, spreads, ends_item, begins, item_mark, is_ampersand, is_paren, is_right_paren, is_right_bracket, is_colon}
+use Rattle.php_grammar.specs.expression.Machine.{Form, Holder, is_array, is_arguments, has_paren, may_end, enclosed_open, items_open, index_open, then_open, assign_open, short_open, yield_open, instance_of_open, OpenForms, State, expects, holds, past_items, past_value, past_exit, past_exit_paren, past_index, past_question, past_assign, past_class, past_static, past_yield, goes_on, start, item_step, ended_by, class_step, static_step, allowed_if, pick, advance, halt, halt_yield, halt_whole, is_last, missing_end, completed_all, closed_with, ended_items, after}
 use Rattle.php_grammar.specs.expression.Depth.{depth, depth_at, depth_behind}
 use Rattle.php_grammar.specs.expression.Laws.{head_continuation}
-use Rattle.php_grammar.proofs.expression.Signs.{closer_symbol, MarkSays, item_says}
+use Rattle.php_grammar.proofs.expression.Roles.{closer_symbol, MarkSays, item_says}
 use Rattle.php_parse_body.specs.Walk.{outcome_of, outcome, stepped, walk, Leads}
 use Rattle.php_parse_body.specs.Seen.{test, head_mark}
 use Rattle.php_parse_body.specs.ListAnswer.{is_found}
@@ -75,10 +75,10 @@ pub value_enters : {room level : ℕ} {v : List Symbol} (h : Holder) (items : It
     → Leads room level (λ s. past_value h items k s) v (λ s. expects (items_open h items (keyed k) ∷ s)) v
 value_enters {room} {level} {v} h items k g = record { same = λ n s whole near is. value_in n h items k s v g }
 
-class_by : (x : Continuation) (class : Class (Unit {0})) (s : OpenForms) → x ≢ draws applies → (is_found class ≡ true → x ≢ draws subscripts) → (is_found class ≡ true → x ≢ draws (selects thin)) → class_step class s x ≡ goes_on (new tt class) s x
-class_by (draws applies) class s a b c = absurd (a refl)
-class_by (draws subscripts) (class_found steps) s a b c = absurd (b refl refl)
-class_by (draws (selects thin)) (class_found steps) s a b c = absurd (c refl refl)
+class_by : (x : Continuation) (class : Class (Unit {0})) (s : OpenForms) → x ≢ draws by_call → (is_found class ≡ true → x ≢ draws by_index) → (is_found class ≡ true → x ≢ draws (by_select thin)) → class_step class s x ≡ goes_on (new tt class) s x
+class_by (draws by_call) class s a b c = absurd (a refl)
+class_by (draws by_index) (class_found steps) s a b c = absurd (b refl refl)
+class_by (draws (by_select thin)) (class_found steps) s a b c = absurd (c refl refl)
 class_by x (class_name spot text) s a b c = refl
 class_by x (class_static spot) s a b c = refl
 class_by x (class_found steps) s a b c = refl
@@ -89,9 +89,9 @@ class_by x (class_found steps) s a b c = refl
 pub record NoMark (h : Holder) (items : Items (Unit {0})) (x : Mark) : Type 0 where
   pub no_reference : is_array h ≡ true → x ≢ refers
   pub no_spread : is_arguments h ≡ true → x ≢ spreads
-  pub no_comma : is_array h ≡ true → x ≢ ends_item sign.comma
-  pub no_paren : has_paren h ≡ true → may_end h items ≡ true → x ≢ ends_item sign.paren
-  pub no_bracket : has_paren h ≡ false → may_end h items ≡ true → x ≢ ends_item sign.bracket
+  pub no_comma : is_array h ≡ true → x ≢ ends_item role.comma
+  pub no_paren : has_paren h ≡ true → may_end h items ≡ true → x ≢ ends_item role.paren
+  pub no_bracket : has_paren h ≡ false → may_end h items ≡ true → x ≢ ends_item role.bracket
 
 marked_off : (b : Bool) (m : State) → (b ≡ true → ⊥) → allowed_if b m ≡ None
 marked_off false m h = refl
@@ -108,13 +108,13 @@ dropped_off false false m h = refl
 dropped_off false true m h = absurd (h refl refl)
 
 ends_off : (c : sign.Closer) (h : Holder) (items : Items (Unit {0})) (s : OpenForms) → NoMark h items (ends_item c) → ended_by c h items s ≡ None
-ends_off sign.comma h items s g = marked_off (is_array h) (past_items h (skip items) s) (λ a. g.no_comma a refl)
-ends_off sign.paren h items s g = picked_off (has_paren h) (may_end h items) (after (closed_with h (ended_items items)) s) (λ a b. g.no_paren a b refl)
-ends_off sign.bracket h items s g = dropped_off (has_paren h) (may_end h items) (after (closed_with h (ended_items items)) s) (λ a b. g.no_bracket a b refl)
+ends_off role.comma h items s g = marked_off (is_array h) (past_items h (skip items) s) (λ a. g.no_comma a refl)
+ends_off role.paren h items s g = picked_off (has_paren h) (may_end h items) (after (closed_with h (ended_items items)) s) (λ a b. g.no_paren a b refl)
+ends_off role.bracket h items s g = dropped_off (has_paren h) (may_end h items) (after (closed_with h (ended_items items)) s) (λ a b. g.no_bracket a b refl)
 ends_off _ h items s g = refl
 
 closer_starts : (c : sign.Closer) (s : OpenForms) → start s (closer_symbol c) ≡ None
-closer_starts sign.paren s = refl
+closer_starts role.paren s = refl
 closer_starts _ s = refl
 
 items_by : (x : Mark) (t : Symbol) (h : Holder) (items : Items (Unit {0})) (s : OpenForms) → MarkSays x t → NoMark h items x → item_step x h items s t ≡ start (items_open h items plain ∷ s) t
@@ -135,25 +135,25 @@ items_enter {room} {level} {v} h items g = record { same = λ n s whole near is.
 
 -- ---- a class that is over, `static` alone, and a `yield` alone
 
-class_in : (n : ℕ) (class : Class (Unit {0})) (s : OpenForms) (v : List Symbol) → head_continuation v ≢ draws applies → (is_found class ≡ true → head_continuation v ≢ draws subscripts) → (is_found class ≡ true → head_continuation v ≢ draws (selects thin))
+class_in : (n : ℕ) (class : Class (Unit {0})) (s : OpenForms) (v : List Symbol) → head_continuation v ≢ draws by_call → (is_found class ≡ true → head_continuation v ≢ draws by_index) → (is_found class ≡ true → head_continuation v ≢ draws (by_select thin))
     → walk n (past_class class s) v ≡ walk n (holds (new tt class) s) v
 class_in n class s [] a b c = refl
 class_in n class s (t ∷ w) a b c = alike n (past_class class s) (holds (new tt class) s) t w (class_by (continuation t) class s a b c) refl refl
 
-pub class_ends : {room level : ℕ} {v : List Symbol} (class : Class (Unit {0})) → head_continuation v ≢ draws applies → (is_found class ≡ true → head_continuation v ≢ draws subscripts) → (is_found class ≡ true → head_continuation v ≢ draws (selects thin))
+pub class_ends : {room level : ℕ} {v : List Symbol} (class : Class (Unit {0})) → head_continuation v ≢ draws by_call → (is_found class ≡ true → head_continuation v ≢ draws by_index) → (is_found class ≡ true → head_continuation v ≢ draws (by_select thin))
     → Leads room level (λ s. past_class class s) v (λ s. holds (new tt class) s) v
 class_ends {room} {level} {v} class a b c = record { same = λ n s whole near is. class_in n class s v a b c }
 
-static_by : (x : Continuation) (l : Form) (s : OpenForms) → x ≢ draws (selects colons) → static_step (instance_open l ∷ s) x ≡ goes_on (static_instance l tt) s x
-static_by (draws (selects colons)) l s h = absurd (h refl)
+static_by : (x : Continuation) (l : Form) (s : OpenForms) → x ≢ draws (by_select colons) → static_step (instance_of_open l ∷ s) x ≡ goes_on (instance_of_static l tt) s x
+static_by (draws (by_select colons)) l s h = absurd (h refl)
 static_by _ l s h = refl
 
-static_in : (n : ℕ) (l : Form) (s : OpenForms) (v : List Symbol) → head_continuation v ≢ draws (selects colons) → walk n (past_static (instance_open l ∷ s)) v ≡ walk n (holds (static_instance l tt) s) v
+static_in : (n : ℕ) (l : Form) (s : OpenForms) (v : List Symbol) → head_continuation v ≢ draws (by_select colons) → walk n (past_static (instance_of_open l ∷ s)) v ≡ walk n (holds (instance_of_static l tt) s) v
 static_in n l s [] h = refl
-static_in n l s (t ∷ w) h = alike n (past_static (instance_open l ∷ s)) (holds (static_instance l tt) s) t w (static_by (continuation t) l s h) refl refl
+static_in n l s (t ∷ w) h = alike n (past_static (instance_of_open l ∷ s)) (holds (instance_of_static l tt) s) t w (static_by (continuation t) l s h) refl refl
 
-pub static_ends : {room level : ℕ} {v : List Symbol} (l : Form) → head_continuation v ≢ draws (selects colons)
-    → Leads room level (λ s. past_static (instance_open l ∷ s)) v (λ s. holds (static_instance l tt) s) v
+pub static_ends : {room level : ℕ} {v : List Symbol} (l : Form) → head_continuation v ≢ draws (by_select colons)
+    → Leads room level (λ s. past_static (instance_of_open l ∷ s)) v (λ s. holds (instance_of_static l tt) s) v
 static_ends {room} {level} {v} l h = record { same = λ n s whole near is. static_in n l s v h }
 
 last_false : (t : Symbol) (w v : List Symbol) → ends_yield (continuation t) ≡ false → is_last (t ∷ w) v ≡ false

@@ -5,9 +5,10 @@ use Rattle.php_ast.specs.Symbol.{Symbol}
 use Rattle.std.proofs.lemmas.Bool.{lt-ltb}
 use Rattle.php_ast.specs.declared.operator.ArrayForm.TheVariants as array_form
 use Rattle.php_grammar.specs.expression.Depth.{depth_at}
-use Rattle.php_ast.specs.expression.Tree.{colons, parentheses, emptiness, exiting, array, isset}
-use Rattle.php_grammar.specs.expression.Sign.{Continuation, draws, continuation, selects, Beginning, is_leaf, is_static, is_quote, is_exit, is_new, is_yield, encloses, lists, prefixes, begins_nothing, beginning}
-use Rattle.php_grammar.specs.expression.Machine.{OpenForms, State, expects, past_static, instance_open, least_power, operand_level, prefix_open, past_yield, allowed_if, advance, start, static_step, started}
+use Rattle.php_ast.specs.expression.Tree.{colons, parentheses, emptiness, exiting, array, is_set}
+use Rattle.php_grammar.specs.expression.Role.{Continuation, draws, continuation, by_select, Beginning, at_leaf, at_static, at_template, at_exit, at_new, at_yield, at_enclosed, at_listed, at_prefix, at_nothing, beginning}
+use Rattle.php_ast.specs.expression.Proper.{operand_level}
+use Rattle.php_grammar.specs.expression.Machine.{OpenForms, State, expects, past_static, instance_of_open, least_power, prefix_open, past_yield, allowed_if, advance, start, static_step, started}
 use Rattle.php_grammar.specs.expression.Laws.{head_continuation}
 use Rattle.php_parse_body.specs.declared.fail.Stop.{Stop}
 use Rattle.php_parse_body.specs.declared.reader.Read.{Read}
@@ -38,21 +39,21 @@ IsSome (Some x) = Unit {0}
 
 -- ---- `static` with no `::` behind it
 
-static_by : (n : ℕ) (s : OpenForms) (x : Continuation) → least_power s ≤ 50 → x ≢ draws (selects colons) → static_step s x ≡ None
-static_by n [] (draws (selects colons)) low h = absurd (h refl)
+static_by : (n : ℕ) (s : OpenForms) (x : Continuation) → least_power s ≤ 50 → x ≢ draws (by_select colons) → static_step s x ≡ None
+static_by n [] (draws (by_select colons)) low h = absurd (h refl)
 static_by n [] _ low h = refl
-static_by n (instance_open l ∷ s) x low h = absurd (omega arith)
-static_by n (_ ∷ s) (draws (selects colons)) low h = absurd (h refl)
+static_by n (instance_of_open l ∷ s) x low h = absurd (omega arith)
+static_by n (_ ∷ s) (draws (by_select colons)) low h = absurd (h refl)
 static_by n (_ ∷ s) _ low h = refl
 
-static_short : (n : ℕ) (s : OpenForms) (v : List Symbol) → least_power s ≤ 50 → head_continuation v ≢ draws (selects colons) → walk n (past_static s) v ≡ short v
+static_short : (n : ℕ) (s : OpenForms) (v : List Symbol) → least_power s ≤ 50 → head_continuation v ≢ draws (by_select colons) → walk n (past_static s) v ≡ short v
 static_short n [] [] low h = refl
-static_short n (instance_open l ∷ s) v low h = absurd (omega arith)
+static_short n (instance_of_open l ∷ s) v low h = absurd (omega arith)
 static_short n (_ ∷ s) [] low h = refl
 static_short n [] (t ∷ w) low h = sticks n (past_static []) t w (static_by n [] (continuation t) low h)
 static_short n (f ∷ s) (t ∷ w) low h = sticks n (past_static (f ∷ s)) t w (static_by n (f ∷ s) (continuation t) low h)
 
-pub static_alone : {room : ℕ} {x w : List Symbol} (t : Symbol) → x ≡ t ∷ w → beginning t ≡ is_static → head_continuation w ≢ draws (selects colons) → 1 ≤ room
+pub static_alone : {room : ℕ} {x w : List Symbol} (t : Symbol) → x ≡ t ∷ w → beginning t ≡ at_static → head_continuation w ≢ draws (by_select colons) → 1 ≤ room
     → Halts false room 50 (λ s. expects s) x w
 static_alone {room} {x} {w} t is begins alone some =
     leads_halts (λ s. past_static s) (move t is (λ s near. ap (λ b. started b s) begins) (λ n s near at. omega arith))
@@ -60,36 +61,36 @@ static_alone {room} {x} {w} t is begins alone some =
 
 -- ---- nothing begins here
 
-nothing_in : (n : ℕ) (s : OpenForms) (v : List Symbol) → head_beginning v ≡ begins_nothing → walk n (expects s) v ≡ short v
+nothing_in : (n : ℕ) (s : OpenForms) (v : List Symbol) → head_beginning v ≡ at_nothing → walk n (expects s) v ≡ short v
 nothing_in n s [] h = refl
 nothing_in n s (t ∷ w) h = sticks n (expects s) t w (ap (λ b. started b s) h)
 
-pub nothing : {room level : ℕ} {v : List Symbol} → head_beginning v ≡ begins_nothing → Halts false room level (λ s. expects s) v v
+pub nothing : {room level : ℕ} {v : List Symbol} → head_beginning v ≡ at_nothing → Halts false room level (λ s. expects s) v v
 nothing {room} {level} {v} h = record { same = λ n s whole near at. nothing_in n s v h }
 
 -- where no level is left, what begins an expression is nested too deep
-deep_by : (b : Beginning) (s : OpenForms) → least_power s ≤ 50 → b ≢ begins_nothing → IsSome (started b s)
-deep_by (is_leaf l) s low h = tt
-deep_by is_static s low h = tt
-deep_by is_quote s low h = tt
-deep_by is_exit s low h = tt
-deep_by is_new s low h = tt
-deep_by is_yield s low h = subst (λ b. IsSome (allowed_if b (past_yield s))) (sym (lt-ltb (least_power s) operand_level (omega arith))) tt
-deep_by (encloses parentheses) s low h = tt
-deep_by (encloses emptiness) s low h = tt
-deep_by (encloses exiting) s low h = tt
-deep_by (lists (array array_form.Brackets)) s low h = tt
-deep_by (lists (array array_form.Array)) s low h = tt
-deep_by (lists (array array_form.List)) s low h = tt
-deep_by (lists isset) s low h = tt
-deep_by (prefixes op) s low h = subst (λ b. IsSome (allowed_if b (expects (prefix_open op ∷ s)))) (sym (lt-ltb (least_power s) operand_level (omega arith))) tt
-deep_by begins_nothing s low h = absurd (h refl)
+deep_by : (b : Beginning) (s : OpenForms) → least_power s ≤ 50 → b ≢ at_nothing → IsSome (started b s)
+deep_by (at_leaf l) s low h = tt
+deep_by at_static s low h = tt
+deep_by at_template s low h = tt
+deep_by at_exit s low h = tt
+deep_by at_new s low h = tt
+deep_by at_yield s low h = subst (λ b. IsSome (allowed_if b (past_yield s))) (sym (lt-ltb (least_power s) operand_level (omega arith))) tt
+deep_by (at_enclosed parentheses) s low h = tt
+deep_by (at_enclosed emptiness) s low h = tt
+deep_by (at_enclosed exiting) s low h = tt
+deep_by (at_listed (array array_form.Brackets)) s low h = tt
+deep_by (at_listed (array array_form.Array)) s low h = tt
+deep_by (at_listed (array array_form.List)) s low h = tt
+deep_by (at_listed is_set) s low h = tt
+deep_by (at_prefix op) s low h = subst (λ b. IsSome (allowed_if b (expects (prefix_open op ∷ s)))) (sym (lt-ltb (least_power s) operand_level (omega arith))) tt
+deep_by at_nothing s low h = absurd (h refl)
 
 sinks_some : (n : ℕ) (m : State) (t : Symbol) (w : List Symbol) (o : Option State) → advance m t ≡ o → IsSome o → n < depth_at m t → walk n m (t ∷ w) ≡ deep (t ∷ w)
 sinks_some n m t w (Some to) is some under = sinks n m to t w is under
 sinks_some n m t w None is some under = absurd some
 
-pub sinks_here : {level : ℕ} {x w : List Symbol} (t : Symbol) → level ≤ 50 → x ≡ t ∷ w → beginning t ≢ begins_nothing → Halts true 0 level (λ s. expects s) x x
+pub sinks_here : {level : ℕ} {x w : List Symbol} (t : Symbol) → level ≤ 50 → x ≡ t ∷ w → beginning t ≢ at_nothing → Halts true 0 level (λ s. expects s) x x
 sinks_here {level} {x} {w} t low is some = record {
   same = λ n s whole near at. ap (walk n (expects s)) is ∙ sinks_some n (expects s) t w (start s t) refl (deep_by (beginning t) s (omega arith) some) (omega arith) ∙ ap deep (sym is);
 }

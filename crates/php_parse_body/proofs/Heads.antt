@@ -3,7 +3,7 @@ use Rattle.std.proofs.Common.{◌≡◌, ◌≢◌, ◌≤◌, ◌<◌, ◌⊎�
 use Rattle.php_token.specs.Token.{Token}
 use Rattle.php_ast.specs.declared.operator.Assign.{Assign}
 use Rattle.php_ast.specs.declared.operator.Count.{Count}
-use Rattle.php_grammar.specs.expression.Sign.{Continuation, draws, closes, neither, continuation, strength_of, draw_strength}
+use Rattle.php_grammar.specs.expression.Role.{Continuation, draws, closes, neither, continuation, strength_of, draw_strength}
 use Rattle.php_grammar.specs.expression.Laws.{head_continuation}
 use Rattle.php_grammar.proofs.expression.Fill.{binary_bound}
 use Rattle.php_parse_body.specs.declared.sign.Next.{Next}
@@ -14,7 +14,7 @@ use Rattle.php_parse_body.specs.declared.sign.Tail.{Tail}
 use Rattle.php_parse_body.specs.declared.sign.Tail.TheVariants as tail
 use Rattle.php_parse_body.specs.SignView.{next_view, infix_view, tail_view}
 use Rattle.php_ast.specs.Symbol.{Symbol}
-use Rattle.php_grammar.specs.expression.Sign.{Beginning, is_leaf, is_static, is_quote, is_exit, is_new, is_yield, encloses, lists, prefixes, begins_nothing, beginning}
+use Rattle.php_grammar.specs.expression.Role.{Beginning, at_leaf, at_static, at_template, at_exit, at_new, at_yield, at_enclosed, at_listed, at_prefix, at_nothing, beginning}
 use Rattle.php_parse_body.specs.declared.sign.Opening.{Opening}
 use Rattle.php_parse_body.specs.declared.sign.Opening.TheVariants as opening
 use Rattle.php_parse_body.specs.declared.sign.Start.{Start}
@@ -93,24 +93,24 @@ no_operator tokens at n level edge some h a rests =
 pub record Begun (tokens : List Token) (at : ℕ) : Type 0 where
   pub token : Symbol
   pub stands : Stands tokens at token
-  pub begins : beginning token ≢ begins_nothing
+  pub begins : beginning token ≢ at_nothing
 
-begun_of : (tokens : List Token) (at : ℕ) (x : Beginning) → x ≢ begins_nothing → Shows beginning tokens at x → Begun tokens at
+begun_of : (tokens : List Token) (at : ℕ) (x : Beginning) → x ≢ at_nothing → Shows beginning tokens at x → Begun tokens at
 begun_of tokens at x h g = record { token = g.token; stands = g.stands; begins = λ e. h (sym g.role_is ∙ e) }
 
-pub begun : (tokens : List Token) (at : ℕ) (x : Beginning) → x ≢ begins_nothing → Starts tokens at x → Begun tokens at
-begun tokens at begins_nothing h g = absurd (h refl)
-begun tokens at (is_leaf l) h g = begun_of tokens at (is_leaf l) h g
-begun tokens at is_static h g = begun_of tokens at is_static h g
-begun tokens at is_quote h g = begun_of tokens at is_quote h g
-begun tokens at is_exit h g = begun_of tokens at is_exit h g
-begun tokens at is_new h g = begun_of tokens at is_new h g
-begun tokens at is_yield h g = begun_of tokens at is_yield h g
-begun tokens at (encloses e) h g = begun_of tokens at (encloses e) h g
-begun tokens at (lists l) h g = begun_of tokens at (lists l) h g
-begun tokens at (prefixes op) h g = begun_of tokens at (prefixes op) h g
+pub begun : (tokens : List Token) (at : ℕ) (x : Beginning) → x ≢ at_nothing → Starts tokens at x → Begun tokens at
+begun tokens at at_nothing h g = absurd (h refl)
+begun tokens at (at_leaf l) h g = begun_of tokens at (at_leaf l) h g
+begun tokens at at_static h g = begun_of tokens at at_static h g
+begun tokens at at_template h g = begun_of tokens at at_template h g
+begun tokens at at_exit h g = begun_of tokens at at_exit h g
+begun tokens at at_new h g = begun_of tokens at at_new h g
+begun tokens at at_yield h g = begun_of tokens at at_yield h g
+begun tokens at (at_enclosed e) h g = begun_of tokens at (at_enclosed e) h g
+begun tokens at (at_listed l) h g = begun_of tokens at (at_listed l) h g
+begun tokens at (at_prefix op) h g = begun_of tokens at (at_prefix op) h g
 
-opening_some : (b : Opening) (text : List ℕ) → opening_view b text ≢ begins_nothing
+opening_some : (b : Opening) (text : List ℕ) → opening_view b text ≢ at_nothing
 opening_some (opening.Leaf kind) text h = cc
 opening_some opening.Static text h = cc
 opening_some opening.Quote text h = cc
@@ -121,7 +121,7 @@ opening_some opening.Empty text h = cc
 opening_some (opening.Array form) text h = cc
 opening_some opening.IsSet text h = cc
 
-pub start_some : (s : Start) (text : List ℕ) → s ≢ start.Nothing → start_view s text ≢ begins_nothing
+pub start_some : (s : Start) (text : List ℕ) → s ≢ start.Nothing → start_view s text ≢ at_nothing
 start_some (start.Operand b) text h = opening_some b text
 start_some (start.Prefix op) text h = λ e. cc
 start_some start.Yield text h = λ e. cc

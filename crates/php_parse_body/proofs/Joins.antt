@@ -18,11 +18,11 @@ use Rattle.php_parse_body.specs.declared.fail.Stop.TheVariants.{Syntax, TooDeep,
 use Rattle.php_parse_body.specs.Answer.{Spans, Fails}
 use Rattle.php_ast.specs.expression.Nesting.{right_depth}
 use Rattle.php_ast.specs.Power.{binary_row}
-use Rattle.php_ast.specs.expression.Proper.{ends, right, is_call}
-use Rattle.php_ast.specs.expression.Tree.{prefix, counted, binary, instance, static_instance, choice, short_choice, assign, by_value, by_reference, yield_nothing, yield_value, yield_pair, colons}
-use Rattle.php_grammar.specs.expression.Sign as sign
-use Rattle.php_grammar.specs.expression.Sign.{Beginning, begins_nothing, is_static, is_yield, prefixes, beginning, Draw, joins, checks, chooses, sets, counts, draw_strength, Continuation, closes, draws, neither, continuation, strength_of, is_arrow, ends_yield, selects, is_ampersand, is_colon}
-use Rattle.php_grammar.specs.expression.Machine.{Form, OpenForm, prefix_open, binary_open, assign_open, else_open, short_open, then_open, instance_open, yield_open, yield_value_open, OpenForms, State, expects, holds, past_assign, past_question, past_yield, past_static, operand_level, least_power_at, least_power, ends_at, completed, pick, allowed_if, started, start, after, after_by, closed, goes_on}
+use Rattle.php_ast.specs.expression.Proper.{operand_level, ends, right, is_call}
+use Rattle.php_ast.specs.expression.Tree.{prefix, count, binary, instance_of, instance_of_static, choice, short_choice, assign, by_value, by_reference, yield_nothing, yield_value, yield_pair, colons}
+use Rattle.php_grammar.specs.expression.Role as role
+use Rattle.php_grammar.specs.expression.Role.{Beginning, at_nothing, at_static, at_yield, at_prefix, beginning, Draw, by_binary, by_instance_of, by_choice, by_assign, by_count, draw_strength, Continuation, closes, draws, neither, continuation, strength_of, is_arrow, ends_yield, by_select, is_ampersand, is_colon}
+use Rattle.php_grammar.specs.expression.Machine.{Form, OpenForm, prefix_open, binary_open, assign_open, else_open, short_open, then_open, instance_of_open, yield_open, yield_value_open, OpenForms, State, expects, holds, past_assign, past_question, past_yield, past_static, least_power_at, least_power, ends_at, completed, pick, allowed_if, started, start, after, after_by, closed, goes_on}
 use Rattle.php_grammar.specs.expression.Depth.{deepened, depth, depth_behind}
 use Rattle.php_grammar.specs.expression.Laws.{head_continuation}
 use Rattle.php_grammar.proofs.expression.Fill.{binary_bound}
@@ -58,48 +58,48 @@ rests_same n v = rests_by (nat_lt (head_strength v) n) n (head_strength v) refl
 
 -- ---- prefix operators
 
-pub prefix_opens : {room : ℕ} {x w : List Symbol} (t : Symbol) (op : Prefix) → x ≡ t ∷ w → beginning t ≡ prefixes op → 1 ≤ room
+pub prefix_opens : {room : ℕ} {x w : List Symbol} (t : Symbol) (op : Prefix) → x ≡ t ∷ w → beginning t ≡ at_prefix op → 1 ≤ room
     → Leads room 50 (λ s. expects s) x (λ s. expects (prefix_open op ∷ s)) w
 prefix_opens t op is begins deep =
     move t is (λ s near. ap (λ b. started b s) begins ∙ ap (λ b. allowed_if b (expects (prefix_open op ∷ s))) (lt-ltb (least_power s) operand_level (omega arith))) (λ n s near at. omega arith)
 
 -- ---- assignments
 
-pub value_opens : {room : ℕ} {x w : List Symbol} (t : Symbol) (op : Assign) (f : Form) → x ≡ t ∷ w → continuation t ≡ draws (sets op) → 50 < ends f → (op ≡ setting.Plain → test is_ampersand w ≡ false) → 1 ≤ room
+pub value_opens : {room : ℕ} {x w : List Symbol} (t : Symbol) (op : Assign) (f : Form) → x ≡ t ∷ w → continuation t ≡ draws (by_assign op) → 50 < ends f → (op ≡ setting.Plain → test is_ampersand w ≡ false) → 1 ≤ room
     → Leads room 50 (λ s. holds f s) x (λ s. expects (assign_open (by_value op) f ∷ s)) w
 value_opens t setting.Plain f is drawing low no_reference deep =
-    leads (λ s. past_assign f s) (draw t (sets setting.Plain) f is drawing (omega arith) low deep) (assign_enters f (no_reference refl))
-value_opens t setting.Power f is drawing low no_reference deep = draw t (sets setting.Power) f is drawing (omega arith) low deep
-value_opens t setting.Times f is drawing low no_reference deep = draw t (sets setting.Times) f is drawing (omega arith) low deep
-value_opens t setting.Divided f is drawing low no_reference deep = draw t (sets setting.Divided) f is drawing (omega arith) low deep
-value_opens t setting.Remainder f is drawing low no_reference deep = draw t (sets setting.Remainder) f is drawing (omega arith) low deep
-value_opens t setting.Plus f is drawing low no_reference deep = draw t (sets setting.Plus) f is drawing (omega arith) low deep
-value_opens t setting.Minus f is drawing low no_reference deep = draw t (sets setting.Minus) f is drawing (omega arith) low deep
-value_opens t setting.Concatenated f is drawing low no_reference deep = draw t (sets setting.Concatenated) f is drawing (omega arith) low deep
-value_opens t setting.ShiftedLeft f is drawing low no_reference deep = draw t (sets setting.ShiftedLeft) f is drawing (omega arith) low deep
-value_opens t setting.ShiftedRight f is drawing low no_reference deep = draw t (sets setting.ShiftedRight) f is drawing (omega arith) low deep
-value_opens t setting.BitAnd f is drawing low no_reference deep = draw t (sets setting.BitAnd) f is drawing (omega arith) low deep
-value_opens t setting.BitXor f is drawing low no_reference deep = draw t (sets setting.BitXor) f is drawing (omega arith) low deep
-value_opens t setting.BitOr f is drawing low no_reference deep = draw t (sets setting.BitOr) f is drawing (omega arith) low deep
+    leads (λ s. past_assign f s) (draw t (by_assign setting.Plain) f is drawing (omega arith) low deep) (assign_enters f (no_reference refl))
+value_opens t setting.Power f is drawing low no_reference deep = draw t (by_assign setting.Power) f is drawing (omega arith) low deep
+value_opens t setting.Times f is drawing low no_reference deep = draw t (by_assign setting.Times) f is drawing (omega arith) low deep
+value_opens t setting.Divided f is drawing low no_reference deep = draw t (by_assign setting.Divided) f is drawing (omega arith) low deep
+value_opens t setting.Remainder f is drawing low no_reference deep = draw t (by_assign setting.Remainder) f is drawing (omega arith) low deep
+value_opens t setting.Plus f is drawing low no_reference deep = draw t (by_assign setting.Plus) f is drawing (omega arith) low deep
+value_opens t setting.Minus f is drawing low no_reference deep = draw t (by_assign setting.Minus) f is drawing (omega arith) low deep
+value_opens t setting.Concatenated f is drawing low no_reference deep = draw t (by_assign setting.Concatenated) f is drawing (omega arith) low deep
+value_opens t setting.ShiftedLeft f is drawing low no_reference deep = draw t (by_assign setting.ShiftedLeft) f is drawing (omega arith) low deep
+value_opens t setting.ShiftedRight f is drawing low no_reference deep = draw t (by_assign setting.ShiftedRight) f is drawing (omega arith) low deep
+value_opens t setting.BitAnd f is drawing low no_reference deep = draw t (by_assign setting.BitAnd) f is drawing (omega arith) low deep
+value_opens t setting.BitXor f is drawing low no_reference deep = draw t (by_assign setting.BitXor) f is drawing (omega arith) low deep
+value_opens t setting.BitOr f is drawing low no_reference deep = draw t (by_assign setting.BitOr) f is drawing (omega arith) low deep
 
-pub reference_opens : {room : ℕ} {x y w : List Symbol} (t u : Symbol) (f : Form) → x ≡ t ∷ y → continuation t ≡ draws (sets setting.Plain) → 50 < ends f → y ≡ u ∷ w → is_ampersand u ≡ true → 1 ≤ room
+pub reference_opens : {room : ℕ} {x y w : List Symbol} (t u : Symbol) (f : Form) → x ≡ t ∷ y → continuation t ≡ draws (by_assign setting.Plain) → 50 < ends f → y ≡ u ∷ w → is_ampersand u ≡ true → 1 ≤ room
     → Leads room 50 (λ s. holds f s) x (λ s. expects (assign_open by_reference f ∷ s)) w
 reference_opens t u f is drawing low more refers deep =
-    leads (λ s. past_assign f s) (draw t (sets setting.Plain) f is drawing (omega arith) low deep)
+    leads (λ s. past_assign f s) (draw t (by_assign setting.Plain) f is drawing (omega arith) low deep)
     (move u more (λ s near. ap (λ b. pick b (Some (expects (assign_open by_reference f ∷ s))) (start (assign_open (by_value setting.Plain) f ∷ s) u)) refers)
     (λ n s near at. omega (arith, ap (λ b. pick b (depth s) (1 + depth s)) refers)))
 
 -- ---- `yield`
 
-yield_begins : {room : ℕ} {x w : List Symbol} (t : Symbol) → x ≡ t ∷ w → beginning t ≡ is_yield → 1 ≤ room → Leads room 50 (λ s. expects s) x (λ s. past_yield s) w
+yield_begins : {room : ℕ} {x w : List Symbol} (t : Symbol) → x ≡ t ∷ w → beginning t ≡ at_yield → 1 ≤ room → Leads room 50 (λ s. expects s) x (λ s. past_yield s) w
 yield_begins t is begins deep =
     move t is (λ s near. ap (λ b. started b s) begins ∙ ap (λ b. allowed_if b (past_yield s)) (lt-ltb (least_power s) operand_level (omega arith))) (λ n s near at. omega arith)
 
-pub yield_nothing_reads : {room : ℕ} {x w : List Symbol} (t : Symbol) → x ≡ t ∷ w → beginning t ≡ is_yield → ends_yield (head_continuation w) ≡ true → 1 ≤ room
+pub yield_nothing_reads : {room : ℕ} {x w : List Symbol} (t : Symbol) → x ≡ t ∷ w → beginning t ≡ at_yield → ends_yield (head_continuation w) ≡ true → 1 ≤ room
     → Leads room 50 (λ s. expects s) x (λ s. holds (yield_nothing tt) s) w
 yield_nothing_reads t is begins alone deep = leads (λ s. past_yield s) (yield_begins t is begins deep) (yield_alone alone)
 
-pub yield_opens : {room : ℕ} {x w : List Symbol} (t : Symbol) → x ≡ t ∷ w → beginning t ≡ is_yield → ends_yield (head_continuation w) ≡ false → 1 ≤ room
+pub yield_opens : {room : ℕ} {x w : List Symbol} (t : Symbol) → x ≡ t ∷ w → beginning t ≡ at_yield → ends_yield (head_continuation w) ≡ false → 1 ≤ room
     → Leads room 50 (λ s. expects s) x (λ s. expects (yield_open ∷ s)) w
 yield_opens t is begins more deep = leads (λ s. past_yield s) (yield_begins t is begins deep) (yield_enters more)
 
@@ -108,19 +108,19 @@ yield_ends_low (closes c) h = omega arith
 yield_ends_low (draws d) h = cc
 yield_ends_low neither h = cc
 
-pub arrow_is : (x : Continuation) → is_arrow x ≡ true → x ≡ closes sign.double_arrow
-arrow_is (closes sign.double_arrow) h = refl
-arrow_is (closes sign.paren) h = cc
-arrow_is (closes sign.bracket) h = cc
-arrow_is (closes sign.brace) h = cc
-arrow_is (closes sign.comma) h = cc
-arrow_is (closes sign.colon) h = cc
-arrow_is (closes sign.semicolon) h = cc
-arrow_is (closes sign.part_end) h = cc
+pub arrow_is : (x : Continuation) → is_arrow x ≡ true → x ≡ closes role.double_arrow
+arrow_is (closes role.double_arrow) h = refl
+arrow_is (closes role.paren) h = cc
+arrow_is (closes role.bracket) h = cc
+arrow_is (closes role.brace) h = cc
+arrow_is (closes role.comma) h = cc
+arrow_is (closes role.colon) h = cc
+arrow_is (closes role.semicolon) h = cc
+arrow_is (closes role.part_end) h = cc
 arrow_is (draws d) h = cc
 arrow_is neither h = cc
 
-pub pair_opens : {room : ℕ} {x w : List Symbol} (t : Symbol) (k : Form) → x ≡ t ∷ w → continuation t ≡ closes sign.double_arrow → 2 ≤ room
+pub pair_opens : {room : ℕ} {x w : List Symbol} (t : Symbol) (k : Form) → x ≡ t ∷ w → continuation t ≡ closes role.double_arrow → 2 ≤ room
     → Leads room 50 (λ s. holds k (yield_open ∷ s)) x (λ s. expects (yield_value_open k ∷ s)) w
 pair_opens t k is arrow deep =
     move t is (λ s near. ap (goes_on k (yield_open ∷ s)) arrow) (λ n s near at. omega (arith, ap (depth_behind (yield_open ∷ s)) arrow))
@@ -133,51 +133,51 @@ right_bounds binary_op.Coalesced = (omega arith, omega arith, omega arith)
 right_bounds binary_op.Times = (omega arith, omega arith, omega arith)
 right_bounds _ = (omega arith, omega arith, omega arith)
 
-pub binary_opens : {room level : ℕ} {x w : List Symbol} (t : Symbol) (op : Binary) (f : Form) → x ≡ t ∷ w → continuation t ≡ draws (joins op) → level ≤ (binary_row op).power → (binary_row op).power < ends f → 1 ≤ room
+pub binary_opens : {room level : ℕ} {x w : List Symbol} (t : Symbol) (op : Binary) (f : Form) → x ≡ t ∷ w → continuation t ≡ draws (by_binary op) → level ≤ (binary_row op).power → (binary_row op).power < ends f → 1 ≤ room
     → Leads room level (λ s. holds f s) x (λ s. expects (binary_open op f ∷ s)) w
-binary_opens t op f is drawing near low deep = draw t (joins op) f is drawing near low deep
+binary_opens t op f is drawing near low deep = draw t (by_binary op) f is drawing near low deep
 
 -- ---- `? :`
 
-pub short_opens : {room level : ℕ} {x y w : List Symbol} (t u : Symbol) (f : Form) → x ≡ t ∷ y → continuation t ≡ draws chooses → level ≤ 10 → 10 < ends f → y ≡ u ∷ w → is_colon u ≡ true → 1 ≤ room
+pub short_opens : {room level : ℕ} {x y w : List Symbol} (t u : Symbol) (f : Form) → x ≡ t ∷ y → continuation t ≡ draws by_choice → level ≤ 10 → 10 < ends f → y ≡ u ∷ w → is_colon u ≡ true → 1 ≤ room
     → Leads room level (λ s. holds f s) x (λ s. expects (short_open f ∷ s)) w
 short_opens t u f is drawing near low more colon deep =
-    leads (λ s. past_question f s) (draw t chooses f is drawing near low deep)
+    leads (λ s. past_question f s) (draw t by_choice f is drawing near low deep)
     (move u more (λ s g. ap (λ b. pick b (Some (expects (short_open f ∷ s))) (start (then_open f ∷ s) u)) colon) (λ n s g at. omega (arith, ap (λ b. pick b (depth s) (1 + depth s)) colon)))
 
-pub then_opens : {room level : ℕ} {x w : List Symbol} (t : Symbol) (f : Form) → x ≡ t ∷ w → continuation t ≡ draws chooses → level ≤ 10 → 10 < ends f → test is_colon w ≡ false → 1 ≤ room
+pub then_opens : {room level : ℕ} {x w : List Symbol} (t : Symbol) (f : Form) → x ≡ t ∷ w → continuation t ≡ draws by_choice → level ≤ 10 → 10 < ends f → test is_colon w ≡ false → 1 ≤ room
     → Leads room level (λ s. holds f s) x (λ s. expects (then_open f ∷ s)) w
-then_opens t f is drawing near low filled deep = leads (λ s. past_question f s) (draw t chooses f is drawing near low deep) (question_enters f filled)
+then_opens t f is drawing near low filled deep = leads (λ s. past_question f s) (draw t by_choice f is drawing near low deep) (question_enters f filled)
 
-shut_then : (c : Form) (k : sign.Closer) (e : Form) (s : OpenForms) → k ≢ sign.colon → closed k e (then_open c) s ≡ None
-shut_then c sign.colon e s h = absurd (h refl)
+shut_then : (c : Form) (k : sign.Closer) (e : Form) (s : OpenForms) → k ≢ role.colon → closed k e (then_open c) s ≡ None
+shut_then c role.colon e s h = absurd (h refl)
 shut_then c _ e s h = refl
 
 pub then_unclosed : {room level : ℕ} {from : OpenForms → State} {x w y : List Symbol} (f e : Form) → level ≤ 50 → Leads room level from x (λ s. expects (then_open f ∷ s)) w
-    → Leads (room - 1) 1 (λ s. expects s) w (λ s. holds e s) y → 1 ≤ room → Rests 1 (ends e) y → head_continuation y ≢ closes sign.colon
+    → Leads (room - 1) 1 (λ s. expects s) w (λ s. holds e s) y → 1 ≤ room → Rests 1 (ends e) y → head_continuation y ≢ closes role.colon
     → Halts false room level from x y
 then_unclosed {room} {level} {from} {x} {w} {y} f e low opens r deep rests shut =
     leads_halts (λ s. expects (then_open f ∷ s)) opens
     (leads_halts (λ s. holds e (then_open f ∷ s)) (inside (room - 1) 1 (then_open f) (inl refl) (omega arith) (λ d. omega arith) r)
     (unclosed_halts e (then_open f) y refl rests (λ k s h. shut_then f k e s (λ p. shut (h ∙ ap closes p)))))
 
-pub else_begins : {room level : ℕ} {y v : List Symbol} (f e : Form) (u : Symbol) → y ≡ u ∷ v → continuation u ≡ closes sign.colon → 2 ≤ room
+pub else_begins : {room level : ℕ} {y v : List Symbol} (f e : Form) (u : Symbol) → y ≡ u ∷ v → continuation u ≡ closes role.colon → 2 ≤ room
     → Leads room level (λ s. holds e (then_open f ∷ s)) y (λ s. expects (else_open f e ∷ s)) v
 else_begins f e u more colon deep =
-    close u sign.colon e (then_open f) (λ s. expects (else_open f e ∷ s)) more colon refl (λ s. refl) (λ d. omega arith) deep
+    close u role.colon e (then_open f) (λ s. expects (else_open f e ∷ s)) more colon refl (λ s. refl) (λ d. omega arith) deep
 
 -- ---- `instanceof`
 
-pub instance_opens : {room level : ℕ} {x w : List Symbol} (t : Symbol) (f : Form) → x ≡ t ∷ w → continuation t ≡ draws checks → level ≤ 36 → 36 < ends f → 1 ≤ room
-    → Leads room level (λ s. holds f s) x (λ s. expects (instance_open f ∷ s)) w
-instance_opens t f is drawing near low deep = draw t checks f is drawing near low deep
+pub instance_opens : {room level : ℕ} {x w : List Symbol} (t : Symbol) (f : Form) → x ≡ t ∷ w → continuation t ≡ draws by_instance_of → level ≤ 36 → 36 < ends f → 1 ≤ room
+    → Leads room level (λ s. holds f s) x (λ s. expects (instance_of_open f ∷ s)) w
+instance_opens t f is drawing near low deep = draw t by_instance_of f is drawing near low deep
 
 operand_in : {room level : ℕ} {w v : List Symbol} (f e : Form) → level ≤ 36 → Leads room 200 (λ s. expects s) w (λ s. after e s) v
-    → Leads room level (λ s. expects (instance_open f ∷ s)) w (λ s. after e (instance_open f ∷ s)) v
-operand_in f e near r = record { same = λ n s whole g is. r.same n (instance_open f ∷ s) (inr (omega arith), whole) (omega arith) (omega arith) }
+    → Leads room level (λ s. expects (instance_of_open f ∷ s)) w (λ s. after e (instance_of_open f ∷ s)) v
+operand_in f e near r = record { same = λ n s whole g is. r.same n (instance_of_open f ∷ s) (inr (omega arith), whole) (omega arith) (omega arith) }
 
 strength_most : (x : Continuation) → strength_of x ≤ 110
-strength_most (draws (joins op)) = omega (arith, binary_bound op)
+strength_most (draws (by_binary op)) = omega (arith, binary_bound op)
 strength_most (draws _) = omega arith
 strength_most _ = omega arith
 
@@ -185,40 +185,40 @@ call_low : (n : ℕ) (x : Continuation) → (strength_of x < 90) ⊎ (n ≤ stre
 call_low n x (inl h) is = omega arith
 call_low n x (inr h) is = absurd (omega (arith, strength_most x))
 
-pub instance_reads : {room level : ℕ} {x w v : List Symbol} (f e : Form) → level ≤ 36 → Leads room level (λ s. holds f s) x (λ s. expects (instance_open f ∷ s)) w
+pub instance_reads : {room level : ℕ} {x w v : List Symbol} (f e : Form) → level ≤ 36 → Leads room level (λ s. holds f s) x (λ s. expects (instance_of_open f ∷ s)) w
     → Leads room 200 (λ s. expects s) w (λ s. after e s) v → is_call e ≡ false → Rests 90 (ends e) v
-    → Leads room level (λ s. holds f s) x (λ s. holds (instance f e) s) v
+    → Leads room level (λ s. holds f s) x (λ s. holds (instance_of f e) s) v
 instance_reads {room} {level} {x} {w} {v} f e near opens r no_call rests =
-    leads (λ s. expects (instance_open f ∷ s)) opens
-    (leads (λ s. after e (instance_open f ∷ s)) (operand_in f e near r)
-    (leads (λ s. holds e (instance_open f ∷ s)) (record { same = λ n s whole g is. ap (λ b. walk n (after_by b e (instance_open f ∷ s)) v) no_call })
+    leads (λ s. expects (instance_of_open f ∷ s)) opens
+    (leads (λ s. after e (instance_of_open f ∷ s)) (operand_in f e near r)
+    (leads (λ s. holds e (instance_of_open f ∷ s)) (record { same = λ n s whole g is. ap (λ b. walk n (after_by b e (instance_of_open f ∷ s)) v) no_call })
     (finish_instance f e v (omega arith) rests)))
 
-pub instance_halts : {room level : ℕ} {x w v : List Symbol} (f e : Form) → level ≤ 36 → Leads room level (λ s. holds f s) x (λ s. expects (instance_open f ∷ s)) w
+pub instance_halts : {room level : ℕ} {x w v : List Symbol} (f e : Form) → level ≤ 36 → Leads room level (λ s. holds f s) x (λ s. expects (instance_of_open f ∷ s)) w
     → Leads room 200 (λ s. expects s) w (λ s. after e s) v → is_call e ≡ true → ends e ≡ 200 → Rests 90 (ends e) v
     → Halts false room level (λ s. holds f s) x v
 instance_halts {room} {level} {x} {w} {v} f e near opens r call broad rests =
-    leads_halts (λ s. expects (instance_open f ∷ s)) opens
-    (leads_halts (λ s. after e (instance_open f ∷ s)) (operand_in f e near r)
+    leads_halts (λ s. expects (instance_of_open f ∷ s)) opens
+    (leads_halts (λ s. after e (instance_of_open f ∷ s)) (operand_in f e near r)
     (call_halts f e v call (call_low (ends e) (head_continuation v) rests broad)))
 
-pub static_instance_reads : {room level : ℕ} {x y w : List Symbol} (f : Form) (u : Symbol) → level ≤ 36 → Leads room level (λ s. holds f s) x (λ s. expects (instance_open f ∷ s)) y
-    → y ≡ u ∷ w → beginning u ≡ is_static → head_continuation w ≢ draws (selects colons) → 1 ≤ room
-    → Leads room level (λ s. holds f s) x (λ s. holds (static_instance f tt) s) w
+pub static_instance_reads : {room level : ℕ} {x y w : List Symbol} (f : Form) (u : Symbol) → level ≤ 36 → Leads room level (λ s. holds f s) x (λ s. expects (instance_of_open f ∷ s)) y
+    → y ≡ u ∷ w → beginning u ≡ at_static → head_continuation w ≢ draws (by_select colons) → 1 ≤ room
+    → Leads room level (λ s. holds f s) x (λ s. holds (instance_of_static f tt) s) w
 static_instance_reads {room} {level} {x} {y} {w} f u near opens is begins alone deep =
-    leads (λ s. expects (instance_open f ∷ s)) opens
-    (leads (λ s. past_static (instance_open f ∷ s)) (move u is (λ s g. ap (λ b. started b (instance_open f ∷ s)) begins) (λ n s g at. omega arith))
+    leads (λ s. expects (instance_of_open f ∷ s)) opens
+    (leads (λ s. past_static (instance_of_open f ∷ s)) (move u is (λ s g. ap (λ b. started b (instance_of_open f ∷ s)) begins) (λ n s g at. omega arith))
     (static_ends f alone))
 
-pub instance_fails : {room level : ℕ} {x w : List Symbol} (tokens : List Token) (at behind : ℕ) (f : Form) (e : Stop) → at ≤ behind → level ≤ 36 → Leads room level (λ s. holds f s) x (λ s. expects (instance_open f ∷ s)) w
+pub instance_fails : {room level : ℕ} {x w : List Symbol} (tokens : List Token) (at behind : ℕ) (f : Form) (e : Stop) → at ≤ behind → level ≤ 36 → Leads room level (λ s. holds f s) x (λ s. expects (instance_of_open f ∷ s)) w
     → Fails room 200 (λ s. expects s) w tokens behind e → Fails room level (λ s. holds f s) x tokens at e
 instance_fails tokens at behind f (Syntax k) ahead near opens r = record {
-  halts = leads_halts (λ s. expects (instance_open f ∷ s)) opens (record { same = λ n s whole g is. r.halts.same n (instance_open f ∷ s) (inr (omega arith), whole) (omega arith) (omega arith) });
+  halts = leads_halts (λ s. expects (instance_of_open f ∷ s)) opens (record { same = λ n s whole g is. r.halts.same n (instance_of_open f ∷ s) (inr (omega arith), whole) (omega arith) (omega arith) });
   ahead = omega (arith, r.ahead);
   within = r.within;
 }
 instance_fails tokens at behind f (TooDeep k) ahead near opens r = record {
-  halts = leads_halts (λ s. expects (instance_open f ∷ s)) opens (record { same = λ n s whole g is. r.halts.same n (instance_open f ∷ s) (inr (omega arith), whole) (omega arith) (omega arith) });
+  halts = leads_halts (λ s. expects (instance_of_open f ∷ s)) opens (record { same = λ n s whole g is. r.halts.same n (instance_of_open f ∷ s) (inr (omega arith), whole) (omega arith) (omega arith) });
   ahead = omega (arith, r.ahead);
   within = r.within;
 }
@@ -231,20 +231,20 @@ instance_rests e v is = instance_by (rests_same 50 v)
     instance_by (inl h) = inl h
     instance_by (inr h) = inr (omega arith)
 
-no_operand_by : (b : Beginning) (f : Form) (s : OpenForms) → NoOperand b → started b (instance_open f ∷ s) ≡ None
-no_operand_by is_yield f s h = refl
-no_operand_by (prefixes op) f s h = refl
-no_operand_by begins_nothing f s h = refl
+no_operand_by : (b : Beginning) (f : Form) (s : OpenForms) → NoOperand b → started b (instance_of_open f ∷ s) ≡ None
+no_operand_by at_yield f s h = refl
+no_operand_by (at_prefix op) f s h = refl
+no_operand_by at_nothing f s h = refl
 no_operand_by _ f s h = absurd h
 
-no_operand_in : (n : ℕ) (f : Form) (s : OpenForms) (v : List Symbol) → NoOperand (head_beginning v) → walk n (expects (instance_open f ∷ s)) v ≡ short v
+no_operand_in : (n : ℕ) (f : Form) (s : OpenForms) (v : List Symbol) → NoOperand (head_beginning v) → walk n (expects (instance_of_open f ∷ s)) v ≡ short v
 no_operand_in n f s [] h = refl
-no_operand_in n f s (t ∷ w) h = sticks n (expects (instance_open f ∷ s)) t w (no_operand_by (beginning t) f s h)
+no_operand_in n f s (t ∷ w) h = sticks n (expects (instance_of_open f ∷ s)) t w (no_operand_by (beginning t) f s h)
 
-pub no_operand : {room level : ℕ} {x y : List Symbol} (f : Form) → Leads room level (λ s. holds f s) x (λ s. expects (instance_open f ∷ s)) y → NoOperand (head_beginning y)
+pub no_operand : {room level : ℕ} {x y : List Symbol} (f : Form) → Leads room level (λ s. holds f s) x (λ s. expects (instance_of_open f ∷ s)) y → NoOperand (head_beginning y)
     → Halts false room level (λ s. holds f s) x y
 no_operand {room} {level} {x} {y} f opens h =
-    leads_halts (λ s. expects (instance_open f ∷ s)) opens (record { same = λ n s whole g is. no_operand_in n f s y h })
+    leads_halts (λ s. expects (instance_of_open f ∷ s)) opens (record { same = λ n s whole g is. no_operand_in n f s y h })
 
 -- ---- notes
 
@@ -278,17 +278,17 @@ binary_spans tokens made l r op f form start place next is a b = record {
   sized = omega (arith, a.sized, b.sized);
 }
 
-pub instance_spans : (tokens : List Token) (made l r : Tree Note) (f form : Form) (start place next : ℕ) → made ≡ instance l r → Spans tokens l f start place → Spans tokens r form (place + 1) next
-    → Spans tokens made (instance f form) start next
+pub instance_spans : (tokens : List Token) (made l r : Tree Note) (f form : Form) (start place next : ℕ) → made ≡ instance_of l r → Spans tokens l f start place → Spans tokens r form (place + 1) next
+    → Spans tokens made (instance_of f form) start next
 instance_spans tokens made l r f form start place next is a b = record {
-  shown = is ∙ ap (λ z. instance z r) a.shown ∙ ap (instance (noted (notes_of tokens) start f)) (b.shown ∙ ap (λ k. noted (notes_of tokens) k form) (omega (arith, a.sized)));
+  shown = is ∙ ap (λ z. instance_of z r) a.shown ∙ ap (instance_of (noted (notes_of tokens) start f)) (b.shown ∙ ap (λ k. noted (notes_of tokens) k form) (omega (arith, a.sized)));
   sized = omega (arith, a.sized, b.sized);
 }
 
-pub static_instance_spans : (tokens : List Token) (made l : Tree Note) (spot : Note) (f : Form) (start place : ℕ) → made ≡ static_instance l spot → spot ≡ (notes_of tokens).token (place + 1) → Spans tokens l f start place
-    → Spans tokens made (static_instance f tt) start (place + 1 + 1)
+pub static_instance_spans : (tokens : List Token) (made l : Tree Note) (spot : Note) (f : Form) (start place : ℕ) → made ≡ instance_of_static l spot → spot ≡ (notes_of tokens).token (place + 1) → Spans tokens l f start place
+    → Spans tokens made (instance_of_static f tt) start (place + 1 + 1)
 static_instance_spans tokens made l spot f start place is noted_is a = record {
-  shown = is ∙ ap (λ z. static_instance z spot) a.shown ∙ ap (static_instance (noted (notes_of tokens) start f)) (noted_is ∙ ap (λ k. (notes_of tokens).token k) (omega (arith, a.sized)));
+  shown = is ∙ ap (λ z. instance_of_static z spot) a.shown ∙ ap (instance_of_static (noted (notes_of tokens) start f)) (noted_is ∙ ap (λ k. (notes_of tokens).token k) (omega (arith, a.sized)));
   sized = omega (arith, a.sized);
 }
 
@@ -307,5 +307,5 @@ short_spans tokens made c b f y start place next is p r = record {
   sized = omega (arith, p.sized, r.sized);
 }
 
-pub counted_spans : (tokens : List Token) (made l : Tree Note) (count : Count) (f : Form) (start place : ℕ) → made ≡ counted l count → Spans tokens l f start place → Spans tokens made (counted f count) start (place + 1)
-counted_spans tokens made l count f start place is a = record { shown = is ∙ ap (λ z. counted z count) a.shown; sized = omega (arith, a.sized) }
+pub counted_spans : (tokens : List Token) (made l : Tree Note) (way : Count) (f : Form) (start place : ℕ) → made ≡ count l way → Spans tokens l f start place → Spans tokens made (count f way) start (place + 1)
+counted_spans tokens made l way f start place is a = record { shown = is ∙ ap (λ z. count z way) a.shown; sized = omega (arith, a.sized) }

@@ -13,8 +13,8 @@ use Rattle.php_ast.specs.expression.Proper.{ends}
 use Rattle.php_ast.specs.expression.Tree.{Tree, Items, none, Member, Class, class_name, class_found, Steps, from, step_property, step_index, new, new_with, Pieces, no_piece, bytes, value, template, thin}
 use Rattle.php_ast.specs.expression.View.{Note, step_more, steps_from, piece_more, pieces_from}
 use Rattle.php_ast.specs.expression.Placed.{size_class, size_steps, size_pieces, noted, noted_class, noted_steps, noted_member, noted_items, noted_pieces, notes_of}
-use Rattle.php_grammar.specs.expression.Sign as sign
-use Rattle.php_grammar.specs.expression.Sign.{beginning, is_new, is_quote, closes, continuation, draws, selects, word_of}
+use Rattle.php_grammar.specs.expression.Role as role
+use Rattle.php_grammar.specs.expression.Role.{beginning, at_new, at_template, closes, continuation, draws, by_select, word_of}
 use Rattle.php_grammar.specs.expression.Machine.{Nothing, Form, of_new, step_open, part_open, OpenForms, State, expects, holds, past_new, past_class, past_step, past_items, past_template, closed, class_step, new_step, template_step, with_member, started}
 use Rattle.php_grammar.specs.expression.Laws.{head_continuation}
 use Rattle.php_grammar.proofs.expression.Fill.{least_power_most}
@@ -29,7 +29,7 @@ use Rattle.php_parse_body.proofs.Productions.{between_reads, between_unclosed}
 
 -- ---- the class
 
-pub new_begins : {room : ℕ} {x w : List Symbol} (t : Symbol) → x ≡ t ∷ w → beginning t ≡ is_new → 1 ≤ room → Leads room 200 (λ s. expects s) x (λ s. past_new s) w
+pub new_begins : {room : ℕ} {x w : List Symbol} (t : Symbol) → x ≡ t ∷ w → beginning t ≡ at_new → 1 ≤ room → Leads room 200 (λ s. expects s) x (λ s. past_new s) w
 new_begins t is begun deep = move t is (λ s near. ap (λ b. started b s) begun) (λ n s near at. omega arith)
 
 abbrev pub named_state : Option (Class Nothing) → OpenForms → Option State
@@ -59,12 +59,12 @@ class_halts {room} {level} {v} h = record { same = λ n s whole near at. classle
 
 -- ---- steps
 
-arrow_on : {room : ℕ} {x w : List Symbol} (t : Symbol) (steps : Steps Nothing) → x ≡ t ∷ w → continuation t ≡ draws (selects thin) → 1 ≤ room
+arrow_on : {room : ℕ} {x w : List Symbol} (t : Symbol) (steps : Steps Nothing) → x ≡ t ∷ w → continuation t ≡ draws (by_select thin) → 1 ≤ room
     → Leads room 200 (λ s. past_class (class_found steps) s) x (λ s. past_step steps s) w
 arrow_on t steps is drawing deep =
-    move t is (λ s near. ap (class_step (class_found steps) s) drawing) (λ n s near at. omega (arith, behind_draw (selects thin) s (continuation t) drawing (omega (arith, least_power_most s))))
+    move t is (λ s near. ap (class_step (class_found steps) s) drawing) (λ n s near at. omega (arith, behind_draw (by_select thin) s (continuation t) drawing (omega (arith, least_power_most s))))
 
-pub step_reads : {room : ℕ} {x y w : List Symbol} (t u : Symbol) (steps : Steps Nothing) (m : Member Nothing) → x ≡ t ∷ y → continuation t ≡ draws (selects thin) → y ≡ u ∷ w → word_of u ≡ Some m → 1 ≤ room
+pub step_reads : {room : ℕ} {x y w : List Symbol} (t u : Symbol) (steps : Steps Nothing) (m : Member Nothing) → x ≡ t ∷ y → continuation t ≡ draws (by_select thin) → y ≡ u ∷ w → word_of u ≡ Some m → 1 ≤ room
     → Leads room 200 (λ s. past_class (class_found steps) s) x (λ s. past_class (class_found (step_property steps m)) s) w
 step_reads t u steps m is drawing more named deep =
     leads (λ s. past_step steps s) (arrow_on t steps is drawing deep)
@@ -74,28 +74,28 @@ wordless : (n : ℕ) (steps : Steps Nothing) (s : OpenForms) (v : List Symbol) �
 wordless n steps s [] h = refl
 wordless n steps s (t ∷ w) h = sticks n (past_step steps s) t w (ap (λ o. with_member o (λ k. past_class (class_found (step_property steps k)) s)) h)
 
-pub step_halts : {room : ℕ} {x y : List Symbol} (t : Symbol) (steps : Steps Nothing) → x ≡ t ∷ y → continuation t ≡ draws (selects thin) → head_word y ≡ None → 1 ≤ room
+pub step_halts : {room : ℕ} {x y : List Symbol} (t : Symbol) (steps : Steps Nothing) → x ≡ t ∷ y → continuation t ≡ draws (by_select thin) → head_word y ≡ None → 1 ≤ room
     → Halts false room 200 (λ s. past_class (class_found steps) s) x y
 step_halts {room} {x} {y} t steps is drawing h deep =
     leads_halts (λ s. past_step steps s) (arrow_on t steps is drawing deep) (record { same = λ n s whole near at. wordless n steps s y h })
 
-pub step_opens : {room : ℕ} {x w : List Symbol} (t : Symbol) (steps : Steps Nothing) → x ≡ t ∷ w → continuation t ≡ draws sign.subscripts → 1 ≤ room
+pub step_opens : {room : ℕ} {x w : List Symbol} (t : Symbol) (steps : Steps Nothing) → x ≡ t ∷ w → continuation t ≡ draws role.by_index → 1 ≤ room
     → Leads room 200 (λ s. past_class (class_found steps) s) x (λ s. expects (step_open steps ∷ s)) w
 step_opens t steps is drawing deep =
-    move t is (λ s near. ap (class_step (class_found steps) s) drawing) (λ n s near at. omega (arith, behind_draw sign.subscripts s (continuation t) drawing (omega (arith, least_power_most s))))
+    move t is (λ s near. ap (class_step (class_found steps) s) drawing) (λ n s near at. omega (arith, behind_draw role.by_index s (continuation t) drawing (omega (arith, least_power_most s))))
 
-shut_step : (a : Steps Nothing) (c : sign.Closer) (e : Form) (s : OpenForms) → c ≢ sign.bracket → closed c e (step_open a) s ≡ None
-shut_step a sign.bracket e s h = absurd (h refl)
+shut_step : (a : Steps Nothing) (c : sign.Closer) (e : Form) (s : OpenForms) → c ≢ role.bracket → closed c e (step_open a) s ≡ None
+shut_step a role.bracket e s h = absurd (h refl)
 shut_step a _ e s h = refl
 
 pub step_index_reads : {room : ℕ} {x w y v : List Symbol} (steps : Steps Nothing) (e : Form) (u : Symbol) → Leads room 200 (λ s. past_class (class_found steps) s) x (λ s. expects (step_open steps ∷ s)) w
-    → Leads (room - 1) 1 (λ s. expects s) w (λ s. holds e s) y → 1 ≤ room - 1 → y ≡ u ∷ v → continuation u ≡ closes sign.bracket
+    → Leads (room - 1) 1 (λ s. expects s) w (λ s. holds e s) y → 1 ≤ room - 1 → y ≡ u ∷ v → continuation u ≡ closes role.bracket
     → Leads room 200 (λ s. past_class (class_found steps) s) x (λ s. past_class (class_found (step_index steps e)) s) v
 step_index_reads steps e u opens r deep more ending =
-    between_reads (step_open steps) e sign.bracket u (λ s. past_class (class_found (step_index steps e)) s) refl (λ d. refl) (λ s. refl) opens r (omega arith) more ending
+    between_reads (step_open steps) e role.bracket u (λ s. past_class (class_found (step_index steps e)) s) refl (λ d. refl) (λ s. refl) opens r (omega arith) more ending
 
 pub step_index_unclosed : {room : ℕ} {x w y : List Symbol} (steps : Steps Nothing) (e : Form) → Leads room 200 (λ s. past_class (class_found steps) s) x (λ s. expects (step_open steps ∷ s)) w
-    → Leads (room - 1) 1 (λ s. expects s) w (λ s. holds e s) y → 1 ≤ room → Rests 1 (ends e) y → head_continuation y ≢ closes sign.bracket
+    → Leads (room - 1) 1 (λ s. expects s) w (λ s. holds e s) y → 1 ≤ room → Rests 1 (ends e) y → head_continuation y ≢ closes role.bracket
     → Halts false room 200 (λ s. past_class (class_found steps) s) x y
 step_index_unclosed steps e opens r deep rests shut =
     between_unclosed (step_open steps) e refl (λ d. refl) deep opens r rests (λ k s h. shut_step steps k e s (λ p. shut (h ∙ ap closes p)))
@@ -112,10 +112,10 @@ step_shown tokens steps w m start at sized is =
 
 -- ---- arguments behind a class
 
-pub class_applies : {room : ℕ} {x w : List Symbol} (t : Symbol) (class : Class Nothing) → x ≡ t ∷ w → continuation t ≡ draws sign.applies → 1 ≤ room
+pub class_applies : {room : ℕ} {x w : List Symbol} (t : Symbol) (class : Class Nothing) → x ≡ t ∷ w → continuation t ≡ draws role.by_call → 1 ≤ room
     → Leads room 200 (λ s. past_class class s) x (λ s. past_items (of_new class) none s) w
 class_applies t class is drawing deep =
-    move t is (λ s near. ap (class_step class s) drawing) (λ n s near at. omega (arith, behind_draw sign.applies s (continuation t) drawing (omega (arith, least_power_most s))))
+    move t is (λ s near. ap (class_step class s) drawing) (λ n s near at. omega (arith, behind_draw role.by_call s (continuation t) drawing (omega (arith, least_power_most s))))
 
 pub new_spans : (tokens : List Token) (made : Tree Note) (spot : Note) (c : Class Note) (class : Class Nothing) (at next : ℕ) → made ≡ new spot c → spot ≡ (notes_of tokens).token at → c ≡ noted_class (notes_of tokens) (at + 1) class
     → at + 1 + size_class class ≡ next → Spans tokens made (new tt class) at next
@@ -134,7 +134,7 @@ new_with_spans tokens made spot c xs class items at place next is noted_is shown
 
 -- ---- texts with parts
 
-pub quote_begins : {room : ℕ} {x w : List Symbol} (t : Symbol) → x ≡ t ∷ w → beginning t ≡ is_quote → 1 ≤ room → Leads room 200 (λ s. expects s) x (λ s. past_template no_piece s) w
+pub quote_begins : {room : ℕ} {x w : List Symbol} (t : Symbol) → x ≡ t ∷ w → beginning t ≡ at_template → 1 ≤ room → Leads room 200 (λ s. expects s) x (λ s. past_template no_piece s) w
 quote_begins t is begun deep = move t is (λ s near. ap (λ b. started b s) begun) (λ n s near at. omega arith)
 
 abbrev pub molded : Mold → Pieces Nothing → OpenForms → Option State
@@ -168,18 +168,18 @@ moldless n pieces s (t ∷ w) h = sticks n (past_template pieces s) t w (templat
 pub template_halts : {room level : ℕ} {v : List Symbol} (pieces : Pieces Nothing) → head_mold v ≡ is_other → Halts false room level (λ s. past_template pieces s) v v
 template_halts {room} {level} {v} pieces h = record { same = λ n s whole near at. moldless n pieces s v h }
 
-shut_part : (a : Pieces Nothing) (c : sign.Closer) (e : Form) (s : OpenForms) → c ≢ sign.part_end → closed c e (part_open a) s ≡ None
-shut_part a sign.part_end e s h = absurd (h refl)
+shut_part : (a : Pieces Nothing) (c : sign.Closer) (e : Form) (s : OpenForms) → c ≢ role.part_end → closed c e (part_open a) s ≡ None
+shut_part a role.part_end e s h = absurd (h refl)
 shut_part a _ e s h = refl
 
 pub part_reads : {room : ℕ} {x w y v : List Symbol} (pieces : Pieces Nothing) (e : Form) (u : Symbol) → Leads room 200 (λ s. past_template pieces s) x (λ s. expects (part_open pieces ∷ s)) w
-    → Leads (room - 1) 1 (λ s. expects s) w (λ s. holds e s) y → 1 ≤ room - 1 → y ≡ u ∷ v → continuation u ≡ closes sign.part_end
+    → Leads (room - 1) 1 (λ s. expects s) w (λ s. holds e s) y → 1 ≤ room - 1 → y ≡ u ∷ v → continuation u ≡ closes role.part_end
     → Leads room 200 (λ s. past_template pieces s) x (λ s. past_template (value pieces e) s) v
 part_reads pieces e u opens r deep more ending =
-    between_reads (part_open pieces) e sign.part_end u (λ s. past_template (value pieces e) s) refl (λ d. refl) (λ s. refl) opens r (omega arith) more ending
+    between_reads (part_open pieces) e role.part_end u (λ s. past_template (value pieces e) s) refl (λ d. refl) (λ s. refl) opens r (omega arith) more ending
 
 pub part_unclosed : {room : ℕ} {x w y : List Symbol} (pieces : Pieces Nothing) (e : Form) → Leads room 200 (λ s. past_template pieces s) x (λ s. expects (part_open pieces ∷ s)) w
-    → Leads (room - 1) 1 (λ s. expects s) w (λ s. holds e s) y → 1 ≤ room → Rests 1 (ends e) y → head_continuation y ≢ closes sign.part_end
+    → Leads (room - 1) 1 (λ s. expects s) w (λ s. holds e s) y → 1 ≤ room → Rests 1 (ends e) y → head_continuation y ≢ closes role.part_end
     → Halts false room 200 (λ s. past_template pieces s) x y
 part_unclosed pieces e opens r deep rests shut =
     between_unclosed (part_open pieces) e refl (λ d. refl) deep opens r rests (λ k s h. shut_part pieces k e s (λ p. shut (h ∙ ap closes p)))

@@ -6,13 +6,13 @@ use Rattle.php_ast.specs.Symbol.{Symbol}
 use Rattle.php_ast.specs.declared.operator.Binary.{Binary}
 use Rattle.php_ast.specs.declared.operator.Binary.TheVariants as binary
 use Rattle.php_ast.specs.Power.{binary_row}
-use Rattle.php_ast.specs.expression.Proper.{ends, right}
-use Rattle.php_grammar.specs.expression.Sign as sign
-use Rattle.php_grammar.specs.expression.Sign.{Draw, draw_strength, Continuation, draws, closes, neither, continuation, strength_of, is_arrow}
-use Rattle.php_grammar.specs.expression.Machine.{Form, OpenForm, enclosed_open, items_open, index_open, computed_open, step_open, part_open, then_open, else_open, short_open, prefix_open, binary_open, instance_open, assign_open, yield_open, yield_value_open, OpenForms, State, expects, holds, least_power_at, least_power, ends_at, completed, seated, seat_end, completed_all, missing_end, closing_part, operand_level, after_by, after, holds_call, pick, allowed_if, released, opened_by, closed, continued, goes_on, advance, halt}
+use Rattle.php_ast.specs.expression.Proper.{operand_level, ends, right}
+use Rattle.php_grammar.specs.expression.Role as role
+use Rattle.php_grammar.specs.expression.Role.{Draw, draw_strength, Continuation, draws, closes, neither, continuation, strength_of, is_arrow}
+use Rattle.php_grammar.specs.expression.Machine.{Form, OpenForm, enclosed_open, items_open, index_open, computed_open, step_open, part_open, then_open, else_open, short_open, prefix_open, binary_open, instance_of_open, assign_open, yield_open, yield_value_open, OpenForms, State, expects, holds, least_power_at, least_power, ends_at, completed, seated, seat_end, completed_all, missing_end, closing_part, after_by, after, holds_call, pick, allowed_if, released, opened_by, closed, continued, goes_on, advance, halt}
 use Rattle.php_grammar.specs.expression.Depth.{deepened, depth, kept, depth_behind, depth_at}
 use Rattle.php_grammar.specs.expression.Laws.{head_continuation}
-use Rattle.php_ast.specs.expression.Tree.{instance}
+use Rattle.php_ast.specs.expression.Tree.{instance_of}
 use Rattle.php_ast.specs.expression.Proper.{is_call}
 use Rattle.php_grammar.proofs.expression.Fill.{without_end, without_end_call, least_power_most}
 use Rattle.php_grammar.proofs.expression.Steps.{after_low, goes_on_draws}
@@ -95,7 +95,7 @@ closing_short (binary_open op l) w u e h = absurd (binary_some op h)
     binary_some : (op : Binary) → right (binary_row op) ≡ 0 → ⊥
     binary_some binary.Power h = omega arith
     binary_some _ h = omega arith
-closing_short (instance_open l) w u e h = absurd (omega arith)
+closing_short (instance_of_open l) w u e h = absurd (omega arith)
 closing_short (assign_open how l) w u e h = absurd (omega arith)
 closing_short yield_open w u e h = absurd (omega arith)
 closing_short (yield_value_open k) w u e h = absurd (omega arith)
@@ -106,7 +106,7 @@ ends_none true yield_open h = refl
 ends_none true _ h = h
 
 pub draws_some : (d : Draw) → 2 ≤ draw_strength d
-draws_some (sign.joins op) = binary_power op
+draws_some (role.by_binary op) = binary_power op
   where
     binary_power : (op : Binary) → 2 ≤ (binary_row op).power
     binary_power binary.Power = omega arith
@@ -172,7 +172,7 @@ completed_ends (computed_open a) e h low = absurd (omega arith)
 completed_ends (step_open steps) e h low = absurd (omega arith)
 completed_ends (part_open pieces) e h low = absurd (omega arith)
 completed_ends (then_open c) e h low = absurd (omega arith)
-completed_ends (instance_open l) e h low = absurd (omega arith)
+completed_ends (instance_of_open l) e h low = absurd (omega arith)
 completed_ends _ e h low = omega arith
 
 ends_level : (arrow : Bool) (f : OpenForm) → ends_at arrow f ≤ least_power_at f
@@ -221,7 +221,7 @@ pub record Completes (f : OpenForm) (e : Form) (v : List Symbol) : Type 0 where
   pub outer : least_power_at f ≤ head_strength v → ends (completed f e) ≤ head_strength v
 
 arrow_ends : (x : Continuation) (f : OpenForm) → (is_arrow x ≡ true → ends_at true f ≡ least_power_at f) → ends_at (is_arrow x) f ≡ least_power_at f
-arrow_ends (closes sign.double_arrow) f h = h refl
+arrow_ends (closes role.double_arrow) f h = h refl
 arrow_ends (closes _) f h = refl
 arrow_ends (draws d) f h = refl
 arrow_ends neither f h = refl
@@ -266,9 +266,9 @@ finish f e v low some most arrow rests = record {
 }
 
 -- an operand behind `instanceof`
-pub finish_instance : {room level : ℕ} (l e : Form) (v : List Symbol) → level ≤ 50 → Rests 90 (ends e) v → Leads room level (λ s. holds e (instance_open l ∷ s)) v (λ s. holds (instance l e) s) v
+pub finish_instance : {room level : ℕ} (l e : Form) (v : List Symbol) → level ≤ 50 → Rests 90 (ends e) v → Leads room level (λ s. holds e (instance_of_open l ∷ s)) v (λ s. holds (instance_of l e) s) v
 finish_instance l e v low rests = record {
-  same = λ n s whole near is. completes n (instance_open l) s e v whole (omega arith) (record {
+  same = λ n s whole near is. completes n (instance_of_open l) s e v whole (omega arith) (record {
     some = omega arith;
     arrow = λ g. refl;
     inner = rests_on 90 (ends e) (head_strength v) rests;
@@ -301,10 +301,10 @@ after_goes : (b : Bool) (d : Draw) (e : Form) (s : OpenForms) (t : Symbol) → c
 after_goes false d e s t is tight low =
     (goes_draw d e s (continuation t) is (omega (arith, least_power_most s)) low, behind_draw d s (continuation t) is (omega (arith, least_power_most s)))
 after_goes true d e [] t is tight low = (goes_draw d e [] (continuation t) is (omega arith) low, behind_draw d [] (continuation t) is (omega arith))
-after_goes true d e (instance_open l ∷ s) t is tight low = (
-  ap (λ x. pick (nat_lt operand_level (strength_of x)) (goes_on e (instance_open l ∷ s) x) None) is
-      ∙ ap (λ b. pick b (goes_on e (instance_open l ∷ s) (draws d)) None) (lt-ltb operand_level (draw_strength d) tight)
-      ∙ goes_on_draws d e (instance_open l ∷ s) (omega arith) low,
+after_goes true d e (instance_of_open l ∷ s) t is tight low = (
+  ap (λ x. pick (nat_lt operand_level (strength_of x)) (goes_on e (instance_of_open l ∷ s) x) None) is
+      ∙ ap (λ b. pick b (goes_on e (instance_of_open l ∷ s) (draws d)) None) (lt-ltb operand_level (draw_strength d) tight)
+      ∙ goes_on_draws d e (instance_of_open l ∷ s) (omega arith) low,
   refl,
 )
 after_goes true d e (f ∷ s) t is tight low =
@@ -320,13 +320,13 @@ suffix t d e is drawing tight low deep =
 pub settle : {room level : ℕ} (e : Form) (v : List Symbol) → level ≤ 50 → Leads room level (λ s. after e s) v (λ s. holds e s) v
 settle e v low = record { same = λ n s whole near is. ap (λ m. walk n m v) (after_low e s (omega arith)) }
 
-call_sticks : (n : ℕ) (e : Form) (s : OpenForms) (l : Form) (v : List Symbol) → is_call e ≡ true → head_strength v < 91 → walk n (after e (instance_open l ∷ s)) v ≡ short v
-call_sticks n e s l v is low = ap (λ b. walk n (after_by b e (instance_open l ∷ s)) v) is ∙ held n e (instance_open l ∷ s) v low
+call_sticks : (n : ℕ) (e : Form) (s : OpenForms) (l : Form) (v : List Symbol) → is_call e ≡ true → head_strength v < 91 → walk n (after e (instance_of_open l ∷ s)) v ≡ short v
+call_sticks n e s l v is low = ap (λ b. walk n (after_by b e (instance_of_open l ∷ s)) v) is ∙ held n e (instance_of_open l ∷ s) v low
   where
     held : (n : ℕ) (e : Form) (s : OpenForms) (v : List Symbol) → head_strength v < 91 → walk n (holds_call e s) v ≡ short v
     held n e s [] low = refl
     held n e s (t ∷ w) low = sticks n (holds_call e s) t w (ap (λ b. pick b (goes_on e s (continuation t)) None) (le-ltb operand_level (strength_of (continuation t)) (omega arith)))
 
 -- a call behind `instanceof`
-pub call_halts : {room level : ℕ} (l e : Form) (v : List Symbol) → is_call e ≡ true → head_strength v < 91 → Halts false room level (λ s. after e (instance_open l ∷ s)) v v
+pub call_halts : {room level : ℕ} (l e : Form) (v : List Symbol) → is_call e ≡ true → head_strength v < 91 → Halts false room level (λ s. after e (instance_of_open l ∷ s)) v v
 call_halts l e v is low = record { same = λ n s whole near at. call_sticks n e s l v is low }

@@ -4,7 +4,7 @@ use Rattle.php_token.specs.Token.{Token}
 use Rattle.php_ast.specs.Symbol.{Symbol}
 use Rattle.php_ast.specs.expression.Proper.{edge, ends, right}
 use Rattle.php_ast.specs.expression.View.{view}
-use Rattle.php_grammar.specs.expression.Sign.{ends_yield}
+use Rattle.php_grammar.specs.expression.Role.{ends_yield}
 use Rattle.php_grammar.specs.expression.Laws.{head_continuation}
 use Rattle.php_grammar.specs.expression.Machine.{OpenForms, State, expects, holds, completed}
 use Rattle.php_parse_body.specs.declared.fail.Stop.{Stop}

@@ -13,8 +13,8 @@ use Rattle.php_ast.specs.expression.Proper.{is_call}
 use Rattle.php_parse_body.specs.Parts.{suffix_parts}
 use Rattle.php_parse_body.proofs.Views.{suffix_push}
 use Rattle.php_ast.specs.expression.Placed.{size, noted, noted_member, notes_of}
-use Rattle.php_grammar.specs.expression.Sign as sign
-use Rattle.php_grammar.specs.expression.Sign.{closes, continuation, draws, selects, subscripts, is_left_brace, is_right_bracket, member_of}
+use Rattle.php_grammar.specs.expression.Role as role
+use Rattle.php_grammar.specs.expression.Role.{closes, continuation, draws, by_select, by_index, is_left_brace, is_right_bracket, member_of}
 use Rattle.php_grammar.specs.expression.Machine.{Nothing, Form, index_open, computed_open, OpenForms, expects, holds, past_index, past_arrow, after, closed, with_member, pick, start}
 use Rattle.php_grammar.specs.expression.Laws.{head_continuation}
 use Rattle.php_parse_body.specs.Walk.{Leads, Halts, Rests, walk, short}
@@ -27,37 +27,37 @@ use Rattle.php_parse_body.proofs.Productions.{between_reads, between_unclosed}
 
 -- ---- `[]` and `[key]`
 
-index_begins : {room : ℕ} {x w : List Symbol} (t : Symbol) (f : Form) → x ≡ t ∷ w → continuation t ≡ draws subscripts → 100 < ends f → 1 ≤ room
+index_begins : {room : ℕ} {x w : List Symbol} (t : Symbol) (f : Form) → x ≡ t ∷ w → continuation t ≡ draws by_index → 100 < ends f → 1 ≤ room
     → Leads room 200 (λ s. after f s) x (λ s. past_index f s) w
-index_begins t f is drawing low deep = suffix t subscripts f is drawing (omega arith) low deep
+index_begins t f is drawing low deep = suffix t by_index f is drawing (omega arith) low deep
 
-pub append_reads : {room : ℕ} {x y w : List Symbol} (t u : Symbol) (f : Form) → x ≡ t ∷ y → continuation t ≡ draws subscripts → 100 < ends f → y ≡ u ∷ w → is_right_bracket u ≡ true → 2 ≤ room
+pub append_reads : {room : ℕ} {x y w : List Symbol} (t u : Symbol) (f : Form) → x ≡ t ∷ y → continuation t ≡ draws by_index → 100 < ends f → y ≡ u ∷ w → is_right_bracket u ≡ true → 2 ≤ room
     → Leads room 200 (λ s. after f s) x (λ s. after (append f) s) w
 append_reads t u f is drawing low more last deep =
     leads (λ s. past_index f s) (index_begins t f is drawing low (omega arith))
     (move u more (λ s near. ap (λ b. pick b (Some (holds (append f) s)) (start (index_open f ∷ s) u)) last) (λ n s near at. omega arith))
 
-pub append_halts : {room : ℕ} {x y w : List Symbol} (t u : Symbol) (f : Form) → x ≡ t ∷ y → continuation t ≡ draws subscripts → 100 < ends f → y ≡ u ∷ w → is_right_bracket u ≡ true → room ≡ 1
+pub append_halts : {room : ℕ} {x y w : List Symbol} (t u : Symbol) (f : Form) → x ≡ t ∷ y → continuation t ≡ draws by_index → 100 < ends f → y ≡ u ∷ w → is_right_bracket u ≡ true → room ≡ 1
     → Halts true room 200 (λ s. after f s) x y
 append_halts {room} {x} {y} {w} t u f is drawing low more last only =
     leads_halts (λ s. past_index f s) (index_begins t f is drawing low (omega arith))
     (sink {to = λ s. holds (append f) s} u more (λ s near. ap (λ b. pick b (Some (holds (append f) s)) (start (index_open f ∷ s) u)) last) (λ n s near at. omega arith))
 
-pub index_opens : {room : ℕ} {x w : List Symbol} (t : Symbol) (f : Form) → x ≡ t ∷ w → continuation t ≡ draws subscripts → 100 < ends f → test is_right_bracket w ≡ false → 1 ≤ room
+pub index_opens : {room : ℕ} {x w : List Symbol} (t : Symbol) (f : Form) → x ≡ t ∷ w → continuation t ≡ draws by_index → 100 < ends f → test is_right_bracket w ≡ false → 1 ≤ room
     → Leads room 200 (λ s. after f s) x (λ s. expects (index_open f ∷ s)) w
 index_opens t f is drawing low filled deep = leads (λ s. past_index f s) (index_begins t f is drawing low deep) (index_enters f filled)
 
-shut_index : (a : Form) (c : sign.Closer) (e : Form) (s : OpenForms) → c ≢ sign.bracket → closed c e (index_open a) s ≡ None
-shut_index a sign.bracket e s h = absurd (h refl)
+shut_index : (a : Form) (c : sign.Closer) (e : Form) (s : OpenForms) → c ≢ role.bracket → closed c e (index_open a) s ≡ None
+shut_index a role.bracket e s h = absurd (h refl)
 shut_index a _ e s h = refl
 
 pub index_reads : {room : ℕ} {x w y v : List Symbol} (f e : Form) (u : Symbol) → Leads room 200 (λ s. after f s) x (λ s. expects (index_open f ∷ s)) w
-    → Leads (room - 1) 1 (λ s. expects s) w (λ s. holds e s) y → 1 ≤ room - 1 → y ≡ u ∷ v → continuation u ≡ closes sign.bracket
+    → Leads (room - 1) 1 (λ s. expects s) w (λ s. holds e s) y → 1 ≤ room - 1 → y ≡ u ∷ v → continuation u ≡ closes role.bracket
     → Leads room 200 (λ s. after f s) x (λ s. after (index f e) s) v
-index_reads f e u opens r deep more ending = between_reads (index_open f) e sign.bracket u (λ s. holds (index f e) s) refl (λ d. refl) (λ s. refl) opens r (omega arith) more ending
+index_reads f e u opens r deep more ending = between_reads (index_open f) e role.bracket u (λ s. holds (index f e) s) refl (λ d. refl) (λ s. refl) opens r (omega arith) more ending
 
 pub index_unclosed : {room : ℕ} {x w y : List Symbol} (f e : Form) → Leads room 200 (λ s. after f s) x (λ s. expects (index_open f ∷ s)) w
-    → Leads (room - 1) 1 (λ s. expects s) w (λ s. holds e s) y → 1 ≤ room → Rests 1 (ends e) y → head_continuation y ≢ closes sign.bracket
+    → Leads (room - 1) 1 (λ s. expects s) w (λ s. holds e s) y → 1 ≤ room → Rests 1 (ends e) y → head_continuation y ≢ closes role.bracket
     → Halts false room 200 (λ s. after f s) x y
 index_unclosed f e opens r deep rests shut =
     between_unclosed (index_open f) e refl (λ d. refl) deep opens r rests (λ k s h. shut_index f k e s (λ p. shut (h ∙ ap closes p)))
@@ -71,27 +71,27 @@ index_spans tokens f key e start at behind next sized spans where_is = record {
 
 -- ---- `-> {name}`
 
-arrow_begins : {room : ℕ} {x w : List Symbol} (t : Symbol) (f : Form) → x ≡ t ∷ w → continuation t ≡ draws (selects thin) → 100 < ends f → 1 ≤ room
+arrow_begins : {room : ℕ} {x w : List Symbol} (t : Symbol) (f : Form) → x ≡ t ∷ w → continuation t ≡ draws (by_select thin) → 100 < ends f → 1 ≤ room
     → Leads room 200 (λ s. after f s) x (λ s. past_arrow thin f s) w
-arrow_begins t f is drawing low deep = suffix t (selects thin) f is drawing (omega arith) low deep
+arrow_begins t f is drawing low deep = suffix t (by_select thin) f is drawing (omega arith) low deep
 
-pub computed_opens : {room : ℕ} {x y w : List Symbol} (t u : Symbol) (f : Form) → x ≡ t ∷ y → continuation t ≡ draws (selects thin) → 100 < ends f → y ≡ u ∷ w → is_left_brace u ≡ true → 1 ≤ room
+pub computed_opens : {room : ℕ} {x y w : List Symbol} (t u : Symbol) (f : Form) → x ≡ t ∷ y → continuation t ≡ draws (by_select thin) → 100 < ends f → y ≡ u ∷ w → is_left_brace u ≡ true → 1 ≤ room
     → Leads room 200 (λ s. after f s) x (λ s. expects (computed_open f ∷ s)) w
 computed_opens t u f is drawing low more brace deep =
     leads (λ s. past_arrow thin f s) (arrow_begins t f is drawing low deep)
     (move u more (λ s near. ap (λ b. pick b (Some (expects (computed_open f ∷ s))) (with_member (member_of u) (λ m. holds (selected f thin m) s))) brace) (λ n s near at. omega arith))
 
-shut_computed : (a : Form) (c : sign.Closer) (e : Form) (s : OpenForms) → c ≢ sign.brace → closed c e (computed_open a) s ≡ None
-shut_computed a sign.brace e s h = absurd (h refl)
+shut_computed : (a : Form) (c : sign.Closer) (e : Form) (s : OpenForms) → c ≢ role.brace → closed c e (computed_open a) s ≡ None
+shut_computed a role.brace e s h = absurd (h refl)
 shut_computed a _ e s h = refl
 
 pub computed_reads : {room : ℕ} {x w y v : List Symbol} (f e : Form) (u : Symbol) → Leads room 200 (λ s. after f s) x (λ s. expects (computed_open f ∷ s)) w
-    → Leads (room - 1) 1 (λ s. expects s) w (λ s. holds e s) y → 1 ≤ room - 1 → y ≡ u ∷ v → continuation u ≡ closes sign.brace
+    → Leads (room - 1) 1 (λ s. expects s) w (λ s. holds e s) y → 1 ≤ room - 1 → y ≡ u ∷ v → continuation u ≡ closes role.brace
     → Leads room 200 (λ s. after f s) x (λ s. after (computed f e) s) v
-computed_reads f e u opens r deep more ending = between_reads (computed_open f) e sign.brace u (λ s. holds (computed f e) s) refl (λ d. refl) (λ s. refl) opens r (omega arith) more ending
+computed_reads f e u opens r deep more ending = between_reads (computed_open f) e role.brace u (λ s. holds (computed f e) s) refl (λ d. refl) (λ s. refl) opens r (omega arith) more ending
 
 pub computed_unclosed : {room : ℕ} {x w y : List Symbol} (f e : Form) → Leads room 200 (λ s. after f s) x (λ s. expects (computed_open f ∷ s)) w
-    → Leads (room - 1) 1 (λ s. expects s) w (λ s. holds e s) y → 1 ≤ room → Rests 1 (ends e) y → head_continuation y ≢ closes sign.brace
+    → Leads (room - 1) 1 (λ s. expects s) w (λ s. holds e s) y → 1 ≤ room → Rests 1 (ends e) y → head_continuation y ≢ closes role.brace
     → Halts false room 200 (λ s. after f s) x y
 computed_unclosed f e opens r deep rests shut =
     between_unclosed (computed_open f) e refl (λ d. refl) deep opens r rests (λ k s h. shut_computed f k e s (λ p. shut (h ∙ ap closes p)))
@@ -105,7 +105,7 @@ computed_spans tokens f key e start at behind next sized spans where_is = record
 
 -- ---- names of members
 
-pub property_reads : {room : ℕ} {x y w : List Symbol} (t u : Symbol) (f : Form) (m : Member Nothing) → x ≡ t ∷ y → continuation t ≡ draws (selects thin) → 100 < ends f → y ≡ u ∷ w → test is_left_brace y ≡ false → member_of u ≡ Some m → 1 ≤ room
+pub property_reads : {room : ℕ} {x y w : List Symbol} (t u : Symbol) (f : Form) (m : Member Nothing) → x ≡ t ∷ y → continuation t ≡ draws (by_select thin) → 100 < ends f → y ≡ u ∷ w → test is_left_brace y ≡ false → member_of u ≡ Some m → 1 ≤ room
     → Leads room 200 (λ s. after f s) x (λ s. after (selected f thin m) s) w
 property_reads t u f m is drawing low more no_brace named deep =
     leads (λ s. past_arrow thin f s) (arrow_begins t f is drawing low deep)
@@ -118,16 +118,16 @@ unnamed n f s (t ∷ w) h no_brace =
     sticks n (past_arrow thin f s) t w (ap (λ b. pick b (Some (expects (computed_open f ∷ s))) (with_member (member_of t) (λ k. holds (selected f thin k) s))) no_brace
     ∙ ap (λ o. with_member o (λ k. holds (selected f thin k) s)) h)
 
-pub property_halts : {room : ℕ} {x y : List Symbol} (t : Symbol) (f : Form) → x ≡ t ∷ y → continuation t ≡ draws (selects thin) → 100 < ends f → test is_left_brace y ≡ false → head_member y ≡ None → 1 ≤ room
+pub property_halts : {room : ℕ} {x y : List Symbol} (t : Symbol) (f : Form) → x ≡ t ∷ y → continuation t ≡ draws (by_select thin) → 100 < ends f → test is_left_brace y ≡ false → head_member y ≡ None → 1 ≤ room
     → Halts false room 200 (λ s. after f s) x y
 property_halts {room} {x} {y} t f is drawing low no_brace h deep =
     leads_halts (λ s. past_arrow thin f s) (arrow_begins t f is drawing low deep) (record { same = λ n s whole near at. unnamed n f s y h no_brace })
 
-colons_begin : {room : ℕ} {x w : List Symbol} (t : Symbol) (f : Form) → x ≡ t ∷ w → continuation t ≡ draws (selects colons) → 100 < ends f → 1 ≤ room
+colons_begin : {room : ℕ} {x w : List Symbol} (t : Symbol) (f : Form) → x ≡ t ∷ w → continuation t ≡ draws (by_select colons) → 100 < ends f → 1 ≤ room
     → Leads room 200 (λ s. after f s) x (λ s. past_arrow colons f s) w
-colons_begin t f is drawing low deep = suffix t (selects colons) f is drawing (omega arith) low deep
+colons_begin t f is drawing low deep = suffix t (by_select colons) f is drawing (omega arith) low deep
 
-pub member_reads : {room : ℕ} {x y w : List Symbol} (t u : Symbol) (f : Form) (m : Member Nothing) → x ≡ t ∷ y → continuation t ≡ draws (selects colons) → 100 < ends f → y ≡ u ∷ w → member_of u ≡ Some m → 1 ≤ room
+pub member_reads : {room : ℕ} {x y w : List Symbol} (t u : Symbol) (f : Form) (m : Member Nothing) → x ≡ t ∷ y → continuation t ≡ draws (by_select colons) → 100 < ends f → y ≡ u ∷ w → member_of u ≡ Some m → 1 ≤ room
     → Leads room 200 (λ s. after f s) x (λ s. after (selected f colons m) s) w
 member_reads t u f m is drawing low more named deep =
     leads (λ s. past_arrow colons f s) (colons_begin t f is drawing low deep)
@@ -137,7 +137,7 @@ memberless : (n : ℕ) (f : Form) (s : OpenForms) (v : List Symbol) → head_mem
 memberless n f s [] h = refl
 memberless n f s (t ∷ w) h = sticks n (past_arrow colons f s) t w (ap (λ o. with_member o (λ k. holds (selected f colons k) s)) h)
 
-pub member_halts : {room : ℕ} {x y : List Symbol} (t : Symbol) (f : Form) → x ≡ t ∷ y → continuation t ≡ draws (selects colons) → 100 < ends f → head_member y ≡ None → 1 ≤ room
+pub member_halts : {room : ℕ} {x y : List Symbol} (t : Symbol) (f : Form) → x ≡ t ∷ y → continuation t ≡ draws (by_select colons) → 100 < ends f → head_member y ≡ None → 1 ≤ room
     → Halts false room 200 (λ s. after f s) x y
 member_halts {room} {x} {y} t f is drawing low h deep =
     leads_halts (λ s. past_arrow colons f s) (colons_begin t f is drawing low deep) (record { same = λ n s whole near at. memberless n f s y h })
@@ -151,9 +151,9 @@ selected_spans tokens f arrow shown_as m start at sized is = record {
 
 -- ---- `(arguments)`
 
-pub call_begins : {room : ℕ} {x w : List Symbol} (t : Symbol) (f : Form) → x ≡ t ∷ w → continuation t ≡ draws sign.applies → 110 < ends f → 1 ≤ room
+pub call_begins : {room : ℕ} {x w : List Symbol} (t : Symbol) (f : Form) → x ≡ t ∷ w → continuation t ≡ draws role.by_call → 110 < ends f → 1 ≤ room
     → Leads room 200 (λ s. after f s) x (λ s. past_items (of_call f) none s) w
-call_begins t f is drawing low deep = suffix t sign.applies f is drawing (omega arith) low deep
+call_begins t f is drawing low deep = suffix t role.by_call f is drawing (omega arith) low deep
 
 pub call_spans : (tokens : List Token) (f : Form) (items : Items Nothing) (xs : Items Note) (start at next : ℕ) → start + size f ≡ at → SpansItems tokens xs items (at + 1) next
     → Spans tokens (call (noted (notes_of tokens) start f) xs) (call f items) start next

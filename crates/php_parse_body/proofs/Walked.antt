@@ -2,7 +2,7 @@
 use Rattle.std.proofs.Common.{◌≡◌, ◌≢◌, ◌≤◌, ◌<◌, ◌⊎◌, inl, inr, ℕ, suc, Bool, true, false, Option, Some, None, List, [], ◌∷◌, ◌++◌, length, refl, ◌∙◌, ap, ltb-true, ltb-false}
 use Rattle.std.specs.Prelude.{nat_lt}
 use Rattle.php_ast.specs.Symbol.{Symbol}
-use Rattle.php_grammar.specs.expression.Machine.{Form, OpenForms, State, past_static, past_yield, instance_open, advance, halt, halt_yield, is_last, missing_end, or_halt, read_from, Reading}
+use Rattle.php_grammar.specs.expression.Machine.{Form, OpenForms, State, past_static, past_yield, instance_of_open, advance, halt, halt_yield, is_last, missing_end, or_halt, read_from, Reading}
 use Rattle.php_grammar.specs.expression.Depth.{depth_at, depths_read, noting}
 use Rattle.php_parse_body.specs.Walk.{Outcome, whole, short, deep, outcome_of, outcome, stepped, walk}
 
@@ -62,7 +62,7 @@ unread_yield true s w = refl
 unread_yield false s w = refl
 
 pub halt_unread : (m : State) (w : List Symbol) → (halt m w).unread ≡ w
-halt_unread (past_static (instance_open l ∷ s)) w = refl
+halt_unread (past_static (instance_of_open l ∷ s)) w = refl
 halt_unread (past_yield s) w = unread_yield (is_last w (missing_end s)) s w
 halt_unread _ w = refl
 

@@ -6,13 +6,13 @@ use Rattle.std.proofs.lemmas.List.{length-append}
 use Rattle.std.proofs.Math.Seq.{take-append_seam}
 use Rattle.php_token.specs.declared.kind.Punct.TheVariants as mark
 use Rattle.php_ast.specs.Symbol.{Symbol, punct}
-use Rattle.php_ast.specs.expression.Tree.{Class, class_name, class_static, class_found, new, exit, static_instance, yield_nothing, thin, colons}
+use Rattle.php_ast.specs.expression.Tree.{Class, class_name, class_static, class_found, new, exit, instance_of_static, yield_nothing, thin, colons}
 use Rattle.php_ast.specs.expression.Spelling.{spell}
 use Rattle.php_ast.specs.expression.Proper.{Proper, ends, ends_bare}
 use Rattle.php_ast.specs.expression.Nesting.{nests}
-use Rattle.php_grammar.specs.expression.Sign as sign
-use Rattle.php_grammar.specs.expression.Sign.{Draw, draw_strength, Continuation, draws, closes, neither, continuation, strength_of, is_arrow, ends_yield}
-use Rattle.php_grammar.specs.expression.Machine.{Nothing, Form, OpenForm, enclosed_open, items_open, yield_open, instance_open, OpenForms, State, expects, holds, past_exit, past_static, past_class, past_yield, past_arrow, class_step, closed, advance, halt, Reading, read, read_from, or_halt, goes_on, released, opened_by, allowed_if, closes_in}
+use Rattle.php_grammar.specs.expression.Role as role
+use Rattle.php_grammar.specs.expression.Role.{Draw, draw_strength, Continuation, draws, closes, neither, continuation, strength_of, is_arrow, ends_yield}
+use Rattle.php_grammar.specs.expression.Machine.{Nothing, Form, OpenForm, enclosed_open, items_open, yield_open, instance_of_open, OpenForms, State, expects, holds, past_exit, past_static, past_class, past_yield, past_arrow, class_step, closed, advance, halt, Reading, read, read_from, or_halt, goes_on, released, opened_by, allowed_if, closes_in}
 use Rattle.php_grammar.specs.expression.Depth.{depth_at, depths_read, noting}
 use Rattle.php_grammar.specs.expression.Laws.{Spells, BeginsExpression, EndsBefore, head_continuation}
 use Rattle.php_grammar.proofs.expression.Appended.{spell_append}
@@ -137,20 +137,20 @@ begun_nests n done to e more r h =
     ∙ r.counts (more ++ semicolon)
 
 -- no state goes on with `;`
-semicolon_closed : (e : Form) (f : OpenForm) (s : OpenForms) → closed sign.semicolon e f s ≡ None
+semicolon_closed : (e : Form) (f : OpenForm) (s : OpenForms) → closed role.semicolon e f s ≡ None
 semicolon_closed e (enclosed_open enclosure) s = refl
 semicolon_closed e (items_open h items lead) s = refl
 semicolon_closed e yield_open s = refl
 semicolon_closed e _ s = refl
 
-semicolon_closes : (e : Form) (s : OpenForms) → closes_in sign.semicolon e s ≡ None
+semicolon_closes : (e : Form) (s : OpenForms) → closes_in role.semicolon e s ≡ None
 semicolon_closes e [] = refl
 semicolon_closes e (f ∷ s) = semicolon_closed e f s
 
-semicolon_goes : (e : Form) (s : OpenForms) → goes_on e s (closes sign.semicolon) ≡ None
+semicolon_goes : (e : Form) (s : OpenForms) → goes_on e s (closes role.semicolon) ≡ None
 semicolon_goes e s = semicolon_closes (released false 0 s e).tree (released false 0 s e).stack
 
-semicolon_class : (class : Class Nothing) (s : OpenForms) → class_step class s (closes sign.semicolon) ≡ None
+semicolon_class : (class : Class Nothing) (s : OpenForms) → class_step class s (closes role.semicolon) ≡ None
 semicolon_class (class_found steps) s = semicolon_goes (new tt (class_found steps)) s
 semicolon_class (class_name spot text) s = semicolon_goes (new tt (class_name spot text)) s
 semicolon_class (class_static spot) s = semicolon_goes (new tt (class_static spot)) s
@@ -159,7 +159,7 @@ pub semicolon_none : (m : State) → advance m (punct mark.Semicolon) ≡ None
 semicolon_none (expects s) = refl
 semicolon_none (holds e s) = semicolon_goes e s
 semicolon_none (past_exit s) = semicolon_goes (exit tt) s
-semicolon_none (past_static (instance_open l ∷ s)) = semicolon_goes (static_instance l tt) s
+semicolon_none (past_static (instance_of_open l ∷ s)) = semicolon_goes (instance_of_static l tt) s
 semicolon_none (past_class class s) = semicolon_class class s
 semicolon_none (past_yield s) = semicolon_goes (yield_nothing tt) s
 semicolon_none (past_arrow thin e s) = refl
@@ -237,18 +237,18 @@ pub record ShortWalk (n : ℕ) (w u y : List Symbol) : Type 0 where
 
 halt_missing : (m : State) (w : List Symbol) → (halt m []).missing ≡ [] → (halt m w).missing ≡ []
 halt_missing (past_yield s) w h = absurd (cc)
-halt_missing (past_static (instance_open l ∷ s)) w h = h
+halt_missing (past_static (instance_of_open l ∷ s)) w h = h
 halt_missing _ w h = h
 
 yield_closes : (x : Continuation) → ends_yield x ≡ true → (strength_of x ≡ 0) × (is_arrow x ≡ false)
-yield_closes (closes sign.paren) h = (refl, refl)
-yield_closes (closes sign.bracket) h = (refl, refl)
-yield_closes (closes sign.comma) h = (refl, refl)
-yield_closes (closes sign.semicolon) h = (refl, refl)
-yield_closes (closes sign.brace) h = absurd (cc)
-yield_closes (closes sign.double_arrow) h = absurd (cc)
-yield_closes (closes sign.colon) h = absurd (cc)
-yield_closes (closes sign.part_end) h = absurd (cc)
+yield_closes (closes role.paren) h = (refl, refl)
+yield_closes (closes role.bracket) h = (refl, refl)
+yield_closes (closes role.comma) h = (refl, refl)
+yield_closes (closes role.semicolon) h = (refl, refl)
+yield_closes (closes role.brace) h = absurd (cc)
+yield_closes (closes role.double_arrow) h = absurd (cc)
+yield_closes (closes role.colon) h = absurd (cc)
+yield_closes (closes role.part_end) h = absurd (cc)
 yield_closes (draws d) h = absurd (cc)
 yield_closes neither h = absurd (cc)
 

@@ -7,21 +7,21 @@ use Rattle.php_ast.specs.declared.spot.Spot.{Spot}
 use Rattle.php_ast.specs.declared.spot.Word.{Word}
 use Rattle.php_ast.specs.Symbol.{symbol}
 use Rattle.php_ast.specs.expression.Tree.{named, reserved}
-use Rattle.php_ast.specs.expression.View.{Note, note}
+use Rattle.php_ast.specs.expression.View.{Note, spot_view}
 use Rattle.php_ast.specs.expression.Placed.{notes_of}
 use Rattle.php_ast.specs.expression.Proper.{may_name}
-use Rattle.php_grammar.specs.expression.Sign.{Mark, item_mark, reserved_if}
+use Rattle.php_grammar.specs.expression.Role.{Mark, item_mark, reserved_if}
 use Rattle.php_parse_body.specs.SignView.{IsMark}
 use Rattle.php_token.specs.declared.kind.TokenKind.TheVariants.{Variable, Keyword}
 use Rattle.php_ast.specs.declared.spot.Name.{Name}
 use Rattle.php_ast.specs.declared.expression.Member.TheVariants as member
 use Rattle.php_ast.specs.Symbol.{symbol_of}
 use Rattle.php_ast.specs.expression.Tree.{held}
-use Rattle.php_grammar.specs.expression.Sign.{member_of}
+use Rattle.php_grammar.specs.expression.Role.{member_of}
 use Rattle.php_parse_body.specs.Seen.{Stands, Words, ShowsWord, ShowsMember, IsNamed, SeesMark, head_mark, head_member, head_word, rest}
 
 word_by : (tokens : List Token) (at : ℕ) (k : Option word.Keyword) (spot : Spot) (text : List ℕ) → Stands tokens at (symbol (token_at tokens at)) → Words (token_at tokens at).kind (Some k)
-    → note spot ≡ (notes_of tokens).token at → text ≡ (token_at tokens at).text → ShowsWord tokens at (Some (record { spot = spot; text = text; keyword = k }))
+    → spot_view spot ≡ (notes_of tokens).token at → text ≡ (token_at tokens at).text → ShowsWord tokens at (Some (record { spot = spot; text = text; keyword = k }))
 word_by tokens at None spot text stands h noted is = (
   named tt (token_at tokens at).text,
   record { token = symbol (token_at tokens at); stands = stands; role_is = h (token_at tokens at).text (token_at tokens at).int },
@@ -46,7 +46,7 @@ pub keyword_words : (k : word.Keyword) → may_name k ≡ true → Words (Keywor
 keyword_words k h = (h, λ text value. ap (λ b. reserved_if b k) h)
 
 pub word_shown : (tokens : List Token) (at : ℕ) (w : Word) → Stands tokens at (symbol (token_at tokens at)) → Words (token_at tokens at).kind (Some w.keyword)
-    → note w.spot ≡ (notes_of tokens).token at → w.text ≡ (token_at tokens at).text → ShowsWord tokens at (Some w)
+    → spot_view w.spot ≡ (notes_of tokens).token at → w.text ≡ (token_at tokens at).text → ShowsWord tokens at (Some w)
 word_shown tokens at w stands h noted is = word_by tokens at w.keyword w.spot w.text stands h noted is
 
 pub marks_seen : (tokens : List Token) (at : ℕ) (m : Mark) (b : Bool) → Stands tokens at (symbol (token_at tokens at)) → IsMark (item_mark (symbol (token_at tokens at))) m b → SeesMark m tokens at b

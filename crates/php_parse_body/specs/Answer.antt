@@ -7,13 +7,13 @@ use Rattle.php_ast.specs.declared.expression.Expr.{Expr}
 use Rattle.php_ast.specs.declared.expression.Suffix.{Suffix}
 use Rattle.php_ast.specs.Symbol.{Symbol}
 use Rattle.php_ast.specs.expression.Tree as tree
-use Rattle.php_ast.specs.expression.Tree.{Tree, array, isset}
+use Rattle.php_ast.specs.expression.Tree.{Tree, array, is_set}
 use Rattle.php_ast.specs.expression.Proper.{ends, ends_bare, is_call}
 use Rattle.php_ast.specs.expression.View as shown
 use Rattle.php_ast.specs.expression.View.{Note, view}
 use Rattle.php_ast.specs.expression.Placed.{size, noted, notes_of}
-use Rattle.php_grammar.specs.expression.Sign as sign
-use Rattle.php_grammar.specs.expression.Sign.{closes, continuation, draws, draw_strength, ends_yield}
+use Rattle.php_grammar.specs.expression.Role as role
+use Rattle.php_grammar.specs.expression.Role.{closes, continuation, draws, draw_strength, ends_yield}
 use Rattle.php_grammar.specs.expression.Laws.{head_continuation}
 use Rattle.php_grammar.specs.expression.Machine.{Form, OpenForms, State, expects, holds, after, yield_open}
 use Rattle.php_parse_body.specs.declared.fail.Stop.{Stop}
@@ -162,14 +162,14 @@ AnswersBehind left level room tokens r =
 
 -- whether `static` stands alone
 abbrev pub SeesStatic : List Token → ℕ → Opening → Bool → Type 0
-SeesStatic tokens at begun true = (begun ≡ opening.Static) × (head_continuation (rest tokens (at + 1)) ≢ draws (sign.selects tree.colons))
-SeesStatic tokens at begun false = begun ≡ opening.Static → Shows continuation tokens (at + 1) (draws (sign.selects tree.colons))
+SeesStatic tokens at begun true = (begun ≡ opening.Static) × (head_continuation (rest tokens (at + 1)) ≢ draws (role.by_select tree.colons))
+SeesStatic tokens at begun false = begun ≡ opening.Static → Shows continuation tokens (at + 1) (draws (role.by_select tree.colons))
 
 -- whether the operand before is changed, where no suffix follows
 abbrev pub SeesChange : List Token → ℕ → Option Change → Type 0
 SeesChange tokens at None = (least : ℕ) → Rests 90 least (rest tokens at) → Rests 50 least (rest tokens at)
-SeesChange tokens at (Some (change.Sets op)) = Shows continuation tokens at (draws (sign.sets op))
-SeesChange tokens at (Some (change.Counts count)) = Shows continuation tokens at (draws (sign.counts count))
+SeesChange tokens at (Some (change.Sets op)) = Shows continuation tokens at (draws (role.by_assign op))
+SeesChange tokens at (Some (change.Counts count)) = Shows continuation tokens at (draws (role.by_count count))
 
 -- whether an operator goes on with an expression
 abbrev pub SeesInfix : List Token → ℕ → ℕ → ℕ → Option Infix → Type 0

@@ -9,7 +9,7 @@ use Rattle.php_ast.specs.expression.View.{Note, view}
 use Rattle.php_ast.specs.expression.Placed.{form_of}
 use Rattle.php_ast.specs.expression.Nesting.{nests}
 use Rattle.php_grammar.specs.TooDeep.{first_too_deep}
-use Rattle.php_grammar.specs.expression.Sign.{ends_yield}
+use Rattle.php_grammar.specs.expression.Role.{ends_yield}
 use Rattle.php_grammar.specs.expression.Machine.{Form}
 use Rattle.php_grammar.specs.expression.Laws.{Spells, BeginsExpression, IsSpelled, head_continuation}
 use Rattle.php_parse_body.specs.declared.fail.ParseFail.{ParseFail}

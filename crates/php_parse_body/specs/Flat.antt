@@ -139,7 +139,7 @@ shape_step (Expr-F.Chain e suffixes) = chain_shape e suffixes
 shape_step (Expr-F.New spot c) = apart (class_flat c)
 shape_step (Expr-F.NewWith spot c arguments) = apart (class_flat c && list_all argument_flat arguments)
 shape_step (Expr-F.Prefix spot op e) = apart e.flat
-shape_step (Expr-F.Counted e count) = apart e.flat
+shape_step (Expr-F.Count e count) = apart e.flat
 shape_step (Expr-F.Run e links) = run_shape e links
 -- an operator that groups to the left is a link of a run
 shape_step (Expr-F.Binary op l r) = apart (not (is_left (binary_row op).grouping) && l.flat && r.flat)

@@ -8,13 +8,13 @@ use Rattle.php_ast.specs.declared.expression.Class.{Class}
 use Rattle.php_ast.specs.declared.operator.ArrayForm.{ArrayForm}
 use Rattle.php_ast.specs.declared.operator.ArrayForm.TheVariants as array_form
 use Rattle.php_ast.specs.expression.Tree as tree
-use Rattle.php_ast.specs.expression.Tree.{Tree, array, isset}
+use Rattle.php_ast.specs.expression.Tree.{Tree, array, is_set}
 use Rattle.php_ast.specs.expression.Proper.{ends, is_none}
 use Rattle.php_ast.specs.expression.View as shown
 use Rattle.php_ast.specs.expression.View.{Note, view}
 use Rattle.php_ast.specs.expression.Placed.{size, size_items, size_lead, size_class, size_steps, size_pieces, comma_size, noted, noted_items, noted_lead, noted_class, noted_steps, noted_pieces, notes_of}
-use Rattle.php_grammar.specs.expression.Sign as sign
-use Rattle.php_grammar.specs.expression.Sign.{closes, continuation, draws, draw_strength, ends_yield}
+use Rattle.php_grammar.specs.expression.Role as role
+use Rattle.php_grammar.specs.expression.Role.{closes, continuation, draws, draw_strength, ends_yield}
 use Rattle.php_grammar.specs.expression.Laws.{head_continuation}
 use Rattle.php_grammar.specs.expression.Machine.{Nothing, Form, Holder, of_list, is_arguments, is_plain, items_open, closed_with, OpenForms, State, holds, past_items, past_value, past_new, past_class, past_template, after}
 use Rattle.php_parse_body.specs.declared.fail.Stop.{Stop}
@@ -34,8 +34,8 @@ use Rattle.php_parse_body.specs.Answer.{Fails}
 
 -- what ends the items of an array or a list
 abbrev pub closer_in : ArrayForm → sign.Closer
-closer_in array_form.Brackets = sign.bracket
-closer_in _ = sign.paren
+closer_in array_form.Brackets = role.bracket
+closer_in _ = role.paren
 
 -- the form of what was listed, up to the closing token before a place
 pub record SpansItems (tokens : List Token) (xs : tree.Items Note) (items : tree.Items Nothing) (at next : ℕ) : Type 0 where
@@ -70,13 +70,13 @@ pub record FoundValues (room : ℕ) (tokens : List Token) (at : ℕ) (r : Listed
   pub items : tree.Items Nothing
   pub spans : SpansItems tokens (shown.values_from tree.none (map view r.items)) items at r.next
   pub flat : are_flat r.items ≡ true
-  pub reads : Leads room 200 (λ s. past_items (of_list isset) tree.none s) (rest tokens at) (λ s. holds (tree.listed tt isset items) s) (rest tokens r.next)
+  pub reads : Leads room 200 (λ s. past_items (of_list is_set) tree.none s) (rest tokens at) (λ s. holds (tree.listed tt is_set items) s) (rest tokens r.next)
   pub ahead : at < r.next
   pub within : r.next ≤ length tokens
 
 abbrev pub AnswersValues : ℕ → List Token → ℕ → Result (Listed Expr) Stop → Type 0
 AnswersValues room tokens at (Ok r) = FoundValues room tokens at r
-AnswersValues room tokens at (Err e) = Fails room 200 (λ s. past_items (of_list isset) tree.none s) (rest tokens at) tokens at e
+AnswersValues room tokens at (Err e) = Fails room 200 (λ s. past_items (of_list is_set) tree.none s) (rest tokens at) tokens at e
 
 -- an item of a list, before the comma or the closing token behind it
 pub record FoundItem (array_of : ArrayForm) (room : ℕ) (tokens : List Token) (at : ℕ) (r : Entry (Item Expr)) : Type 0 where
@@ -87,7 +87,7 @@ pub record FoundItem (array_of : ArrayForm) (room : ℕ) (tokens : List Token) (
   pub flat : is_flat_item r.item ≡ true
   pub reads : (items : tree.Items Nothing) → Leads room 200 (λ s. past_items (of_list (array array_of)) items s) (rest tokens at) (λ s. holds form (items_open (of_list (array array_of)) items lead ∷ s)) (rest tokens r.next)
   pub rests : Rests 1 (ends form) (rest tokens r.next)
-  pub no_key : is_plain lead ≡ true → head_continuation (rest tokens r.next) ≢ closes sign.double_arrow
+  pub no_key : is_plain lead ≡ true → head_continuation (rest tokens r.next) ≢ closes role.double_arrow
   pub deep : 2 ≤ room
   pub ahead : at < r.next
   pub within : r.next ≤ length tokens
@@ -161,8 +161,8 @@ pub record FoundClass (from : OpenForms → State) (room : ℕ) (tokens : List T
   pub sized : at + size_class class ≡ r.next
   pub flat : is_flat_class r.item ≡ true
   pub reads : Leads room 200 from (rest tokens at) (λ s. past_class class s) (rest tokens r.next)
-  pub no_index : is_found class ≡ true → head_continuation (rest tokens r.next) ≢ draws sign.subscripts
-  pub no_arrow : is_found class ≡ true → head_continuation (rest tokens r.next) ≢ draws (sign.selects tree.thin)
+  pub no_index : is_found class ≡ true → head_continuation (rest tokens r.next) ≢ draws role.by_index
+  pub no_arrow : is_found class ≡ true → head_continuation (rest tokens r.next) ≢ draws (role.by_select tree.thin)
   pub ahead : at < r.next
   pub within : r.next ≤ length tokens
 
@@ -206,7 +206,7 @@ pub record ArgumentsSoFar (room : ℕ) (tokens : List Token) (at : ℕ) (xs : Li
   pub sized : at + size_items items + comma_size items ≡ next
   pub flat : are_flat_arguments xs ≡ true
   pub reads : (h : Holder) → is_arguments h ≡ true → Leads room 200 (λ s. past_items h tree.none s) (rest tokens at) (λ s. past_items h items s) (rest tokens next)
-  pub no_end : head_continuation (rest tokens next) ≢ closes sign.paren
+  pub no_end : head_continuation (rest tokens next) ≢ closes role.paren
   pub within : next ≤ length tokens
 
 pub record ValuesSoFar (room : ℕ) (tokens : List Token) (at : ℕ) (xs : List Expr) (next : ℕ) : Type 0 where
@@ -214,7 +214,7 @@ pub record ValuesSoFar (room : ℕ) (tokens : List Token) (at : ℕ) (xs : List 
   pub shown : shown.values_from tree.none (map view xs) ≡ noted_items (notes_of tokens) at items
   pub sized : at + size_items items + comma_size items ≡ next
   pub flat : are_flat xs ≡ true
-  pub reads : Leads room 200 (λ s. past_items (of_list isset) tree.none s) (rest tokens at) (λ s. past_items (of_list isset) items s) (rest tokens next)
+  pub reads : Leads room 200 (λ s. past_items (of_list is_set) tree.none s) (rest tokens at) (λ s. past_items (of_list is_set) items s) (rest tokens next)
   pub within : next ≤ length tokens
 
 abbrev pub no_items : {A : Type 0} → List A → Bool
@@ -249,11 +249,11 @@ pub record StepsSoFar (room : ℕ) (tokens : List Token) (at : ℕ) (text : List
 
 -- whether a step follows to the name of a class
 abbrev pub SeesStep : List Token → ℕ → Option StepKind → Type 0
-SeesStep tokens at None = (head_continuation (rest tokens at) ≢ draws sign.subscripts) × (head_continuation (rest tokens at) ≢ draws (sign.selects tree.thin))
-SeesStep tokens at (Some step_kind.Property) = Shows continuation tokens at (draws (sign.selects tree.thin))
-SeesStep tokens at (Some step_kind.Index) = Shows continuation tokens at (draws sign.subscripts)
+SeesStep tokens at None = (head_continuation (rest tokens at) ≢ draws role.by_index) × (head_continuation (rest tokens at) ≢ draws (role.by_select tree.thin))
+SeesStep tokens at (Some step_kind.Property) = Shows continuation tokens at (draws (role.by_select tree.thin))
+SeesStep tokens at (Some step_kind.Index) = Shows continuation tokens at (draws role.by_index)
 
 -- whether arguments follow
 abbrev pub SeesArguments : List Token → ℕ → Bool → Type 0
-SeesArguments tokens at true = Shows continuation tokens at (draws sign.applies)
-SeesArguments tokens at false = head_continuation (rest tokens at) ≢ draws sign.applies
+SeesArguments tokens at true = Shows continuation tokens at (draws role.by_call)
+SeesArguments tokens at false = head_continuation (rest tokens at) ≢ draws role.by_call

@@ -4,14 +4,14 @@ use Rattle.php_token.specs.Token.{Token, token_at}
 use Rattle.php_token.specs.declared.kind.Keyword.{Keyword}
 use Rattle.php_token.specs.declared.kind.TokenKind.{TokenKind}
 use Rattle.php_ast.specs.Symbol.{Symbol, symbol, symbol_of}
-use Rattle.php_grammar.specs.expression.Sign.{Beginning, begins_nothing, is_yield, prefixes, beginning, Continuation, neither, continuation, Mark, begins, item_mark, word_of, member_of}
+use Rattle.php_grammar.specs.expression.Role.{Beginning, at_nothing, at_yield, at_prefix, beginning, Continuation, neither, continuation, Mark, begins, item_mark, word_of, member_of}
 use Rattle.php_ast.specs.declared.spot.Name.{Name}
 use Rattle.php_ast.specs.declared.spot.Word.{Word}
 use Rattle.php_ast.specs.declared.expression.Member as behind_colons
 use Rattle.php_token.specs.declared.kind.Keyword.TheVariants as word
 use Rattle.php_ast.specs.Symbol as sort
 use Rattle.php_ast.specs.expression.Tree.{Member, named, reserved, Class, class_name, class_static, class_found, from}
-use Rattle.php_ast.specs.expression.View.{note, word_view, member_view}
+use Rattle.php_ast.specs.expression.View.{spot_view, word_view, member_view}
 use Rattle.php_ast.specs.expression.Placed.{noted_member, notes_of}
 use Rattle.php_ast.specs.expression.Proper.{may_name, IsWord}
 use Rattle.php_grammar.specs.expression.Laws.{head_continuation}
@@ -48,11 +48,11 @@ Tests is_so tokens at false = test is_so (rest tokens at) ≡ false
 
 -- where an expression is due; nothing begins at the end
 abbrev pub head_beginning : List Symbol → Beginning
-head_beginning [] = begins_nothing
+head_beginning [] = at_nothing
 head_beginning (t ∷ w) = beginning t
 
 abbrev pub Starts : List Token → ℕ → Beginning → Type 0
-Starts tokens at begins_nothing = head_beginning (rest tokens at) ≡ begins_nothing
+Starts tokens at at_nothing = head_beginning (rest tokens at) ≡ at_nothing
 Starts tokens at x = Shows beginning tokens at x
 
 -- where an item is due
@@ -83,7 +83,7 @@ ShowsMember tokens at (Some found) = (m : Member (Unit {0})) × Shows member_of 
 
 -- a name is that of the token at a place
 pub record IsNamed (tokens : List Token) (at : ℕ) (n : Name) : Type 0 where
-  pub noted : note n.spot ≡ (notes_of tokens).token at
+  pub noted : spot_view n.spot ≡ (notes_of tokens).token at
   pub text : n.text ≡ (token_at tokens at).text
 
 -- whether a token of a kind may name a member, and the keyword that it is
@@ -131,7 +131,7 @@ SeesMold tokens at x = Shows mold tokens at x
 
 -- what begins no operand
 abbrev pub NoOperand : Beginning → Type 0
-NoOperand is_yield = Unit {0}
-NoOperand (prefixes op) = Unit {0}
-NoOperand begins_nothing = Unit {0}
+NoOperand at_yield = Unit {0}
+NoOperand (at_prefix op) = Unit {0}
+NoOperand at_nothing = Unit {0}
 NoOperand _ = ⊥

@@ -1,8 +1,8 @@
 -- From the roles of tokens in the program to those of the grammar.
 use Rattle.std.specs.Prelude.{◌≡◌, ◌≢◌, ℕ, Bool, true, false, Option, Some, None, List}
-use Rattle.php_ast.specs.expression.Tree.{Leaf, variable, int, string, name, magic, parentheses, emptiness, array, isset, thin, colons}
-use Rattle.php_grammar.specs.expression.Sign as sign
-use Rattle.php_grammar.specs.expression.Sign.{Beginning, is_leaf, is_static, is_quote, is_exit, is_new, is_yield, encloses, lists, prefixes, begins_nothing, beginning, Draw, joins, checks, chooses, sets, counts, applies, subscripts, selects, Continuation, draws, closes, neither, Mark}
+use Rattle.php_ast.specs.expression.Tree.{Leaf, variable, int, string, name, magic, parentheses, emptiness, array, is_set, thin, colons}
+use Rattle.php_grammar.specs.expression.Role as role
+use Rattle.php_grammar.specs.expression.Role.{Beginning, at_leaf, at_static, at_template, at_exit, at_new, at_yield, at_enclosed, at_listed, at_prefix, at_nothing, beginning, Draw, by_binary, by_instance_of, by_choice, by_assign, by_count, by_call, by_index, by_select, Continuation, draws, closes, neither, Mark}
 use Rattle.php_parse_body.specs.declared.sign.LeafKind.{LeafKind}
 use Rattle.php_parse_body.specs.declared.sign.LeafKind.TheVariants as leaf
 use Rattle.php_parse_body.specs.declared.sign.Opening.{Opening}
@@ -34,47 +34,47 @@ leaf_view leaf.Name text = name text
 leaf_view (leaf.Magic constant) text = magic constant
 
 abbrev pub opening_view : Opening → List ℕ → Beginning
-opening_view (opening.Leaf kind) text = is_leaf (leaf_view kind text)
-opening_view opening.Static text = is_static
-opening_view opening.Quote text = is_quote
-opening_view opening.Exit text = is_exit
-opening_view opening.New text = is_new
-opening_view opening.Group text = encloses parentheses
-opening_view opening.Empty text = encloses emptiness
-opening_view (opening.Array form) text = lists (array form)
-opening_view opening.IsSet text = lists isset
+opening_view (opening.Leaf kind) text = at_leaf (leaf_view kind text)
+opening_view opening.Static text = at_static
+opening_view opening.Quote text = at_template
+opening_view opening.Exit text = at_exit
+opening_view opening.New text = at_new
+opening_view opening.Group text = at_enclosed parentheses
+opening_view opening.Empty text = at_enclosed emptiness
+opening_view (opening.Array form) text = at_listed (array form)
+opening_view opening.IsSet text = at_listed is_set
 
 abbrev pub start_view : Start → List ℕ → Beginning
 start_view (start.Operand begun) text = opening_view begun text
-start_view (start.Prefix op) text = prefixes op
-start_view start.Yield text = is_yield
-start_view start.Nothing text = begins_nothing
+start_view (start.Prefix op) text = at_prefix op
+start_view start.Yield text = at_yield
+start_view start.Nothing text = at_nothing
 
 abbrev pub closer_view : Closer → sign.Closer
-closer_view closer.Paren = sign.paren
-closer_view closer.Bracket = sign.bracket
-closer_view closer.Brace = sign.brace
-closer_view closer.Comma = sign.comma
-closer_view closer.DoubleArrow = sign.double_arrow
-closer_view closer.Colon = sign.colon
-closer_view closer.Semicolon = sign.semicolon
-closer_view closer.EndPart = sign.part_end
+closer_view closer.Paren = role.paren
+closer_view closer.Bracket = role.bracket
+closer_view closer.Brace = role.brace
+closer_view closer.Comma = role.comma
+closer_view closer.DoubleArrow = role.double_arrow
+closer_view closer.Colon = role.colon
+closer_view closer.Semicolon = role.semicolon
+closer_view closer.EndPart = role.part_end
 
 abbrev pub infix_view : Infix → Draw
-infix_view (operator.Joins op) = joins op
-infix_view operator.Checks = checks
-infix_view operator.Chooses = chooses
+infix_view (operator.Joins op) = by_binary op
+infix_view operator.Checks = by_instance_of
+infix_view operator.Chooses = by_choice
 
 abbrev pub tail_view : Tail → Draw
-tail_view tail.Applies = applies
-tail_view tail.Subscripts = subscripts
-tail_view tail.Arrow = selects thin
-tail_view tail.Colons = selects colons
+tail_view tail.Applies = by_call
+tail_view tail.Subscripts = by_index
+tail_view tail.Arrow = by_select thin
+tail_view tail.Colons = by_select colons
 
 abbrev pub next_view : Next → Continuation
 next_view (next.Operator op) = draws (infix_view op)
-next_view (next.Sets op) = draws (sets op)
-next_view (next.Counts count) = draws (counts count)
+next_view (next.Sets op) = draws (by_assign op)
+next_view (next.Counts count) = draws (by_count count)
 next_view (next.Suffix first) = draws (tail_view first)
 next_view (next.Closes closer) = closes (closer_view closer)
 next_view next.Neither = neither

@@ -2,7 +2,7 @@
 -- go on, or that is nested too deep.
 use Rattle.std.specs.Prelude.{◌≡◌, ◌≤◌, ◌<◌, ◌⊎◌, ℕ, suc, ◌+◌, Bool, true, false, nat_lt, Option, Some, None, List, [], ◌∷◌}
 use Rattle.php_ast.specs.Symbol.{Symbol}
-use Rattle.php_grammar.specs.expression.Sign.{strength_of}
+use Rattle.php_grammar.specs.expression.Role.{strength_of}
 use Rattle.php_grammar.specs.expression.Machine.{Form, OpenForms, State, least_power_at, least_power, advance, Reading, halt}
 use Rattle.php_grammar.specs.expression.Depth.{depth, depth_at}
 use Rattle.php_grammar.specs.expression.Laws.{head_continuation}

@@ -4,7 +4,7 @@ ghost use Rattle.std.specs.Prelude.{◌≡◌, true, false, map, IfOk};
 ghost use Rattle.php_ast.specs.Power.{binary_row};
 ghost use Rattle.php_ast.specs.expression.Tree as tree;
 ghost use Rattle.php_ast.specs.expression.View as shown;
-ghost use Rattle.php_ast.specs.expression.View.{view, note};
+ghost use Rattle.php_ast.specs.expression.View.{view, spot_view};
 ghost use Rattle.php_parse_body.specs.Parts as part;
 ghost use Rattle.php_parse_body.specs.Flat.{are_flat, are_flat_arguments, are_flat_items, are_flat_pieces, are_flat_suffixes, is_flat, is_flat_class, is_flat_leaf, is_flat_link, is_flat_run, is_flat_suffix, is_left, is_run, link_row, starts_run};
 
@@ -17,7 +17,7 @@ use std::alloc::{AllocError, Global};
 
 pub(crate) fn grouped(alloc: Global, spot: Spot, inside: Expr) -> Result<Expr, AllocError>
     requires { is_flat inside ≡ true }
-    ensures shown { IfOk result (λ e. view e ≡ tree.enclosed (note spot) tree.parentheses (view inside)) }
+    ensures shown { IfOk result (λ e. view e ≡ tree.enclosed (spot_view spot) tree.parentheses (view inside)) }
     ensures flat { IfOk result (λ e. is_flat_leaf e ≡ true) }
 {
     Ok(Expr::Group(spot, Boxed::new(alloc, inside)?))
@@ -25,7 +25,7 @@ pub(crate) fn grouped(alloc: Global, spot: Spot, inside: Expr) -> Result<Expr, A
 
 pub(crate) fn emptied(alloc: Global, spot: Spot, inside: Expr) -> Result<Expr, AllocError>
     requires { is_flat inside ≡ true }
-    ensures shown { IfOk result (λ e. view e ≡ tree.enclosed (note spot) tree.emptiness (view inside)) }
+    ensures shown { IfOk result (λ e. view e ≡ tree.enclosed (spot_view spot) tree.emptiness (view inside)) }
     ensures flat { IfOk result (λ e. is_flat_leaf e ≡ true) }
 {
     Ok(Expr::Empty(spot, Boxed::new(alloc, inside)?))
@@ -33,35 +33,35 @@ pub(crate) fn emptied(alloc: Global, spot: Spot, inside: Expr) -> Result<Expr, A
 
 pub(crate) fn exited(alloc: Global, spot: Spot, inside: Expr) -> Result<Expr, AllocError>
     requires { is_flat inside ≡ true }
-    ensures shown { IfOk result (λ e. view e ≡ tree.enclosed (note spot) tree.exiting (view inside)) }
+    ensures shown { IfOk result (λ e. view e ≡ tree.enclosed (spot_view spot) tree.exiting (view inside)) }
     ensures flat { IfOk result (λ e. is_flat_leaf e ≡ true) }
 {
     Ok(Expr::ExitWith(spot, Boxed::new(alloc, inside)?))
 }
 
 pub(crate) fn bare_exit(spot: Spot) -> Expr
-    ensures shown { view result ≡ tree.exit (note spot) }
+    ensures shown { view result ≡ tree.exit (spot_view spot) }
     ensures flat { is_flat_leaf result ≡ true }
 {
     Expr::Exit(spot)
 }
 
 pub(crate) fn empty_exit(spot: Spot) -> Expr
-    ensures shown { view result ≡ tree.exit_empty (note spot) }
+    ensures shown { view result ≡ tree.exit_empty (spot_view spot) }
     ensures flat { is_flat_leaf result ≡ true }
 {
     Expr::ExitEmpty(spot)
 }
 
 pub(crate) fn of_static(alloc: Global, spot: Spot, member: Member) -> Result<Expr, AllocError>
-    ensures shown { IfOk result (λ e. view e ≡ tree.static_member (note spot) (shown.member_view member)) }
+    ensures shown { IfOk result (λ e. view e ≡ tree.static_member (spot_view spot) (shown.member_view member)) }
     ensures flat { IfOk result (λ e. is_flat_leaf e ≡ true) }
 {
     Ok(Expr::StaticMember(spot, Boxed::new(alloc, member)?))
 }
 
 pub(crate) fn yielded_nothing(spot: Spot) -> Expr
-    ensures shown { view result ≡ tree.yield_nothing (note spot) }
+    ensures shown { view result ≡ tree.yield_nothing (spot_view spot) }
     ensures flat { is_flat result ≡ true }
 {
     Expr::YieldNothing(spot)
@@ -69,7 +69,7 @@ pub(crate) fn yielded_nothing(spot: Spot) -> Expr
 
 pub(crate) fn listed(spot: Spot, form: ArrayForm, items: Items<Item<Expr>>) -> Expr
     requires { are_flat_items items ≡ true }
-    ensures shown { view result ≡ tree.listed (note spot) (tree.array form) (shown.items_from tree.none (map part.item_parts items)) }
+    ensures shown { view result ≡ tree.listed (spot_view spot) (tree.array form) (shown.items_from tree.none (map part.item_parts items)) }
     ensures flat { is_flat_leaf result ≡ true }
 {
     Expr::Array(spot, form, items)
@@ -77,7 +77,7 @@ pub(crate) fn listed(spot: Spot, form: ArrayForm, items: Items<Item<Expr>>) -> E
 
 pub(crate) fn tested(spot: Spot, values: Items<Expr>) -> Expr
     requires { are_flat values ≡ true }
-    ensures shown { view result ≡ tree.listed (note spot) tree.isset (shown.values_from tree.none (map view values)) }
+    ensures shown { view result ≡ tree.listed (spot_view spot) tree.is_set (shown.values_from tree.none (map view values)) }
     ensures flat { is_flat_leaf result ≡ true }
 {
     Expr::IsSet(spot, values)
@@ -85,7 +85,7 @@ pub(crate) fn tested(spot: Spot, values: Items<Expr>) -> Expr
 
 pub(crate) fn templated(spot: Spot, pieces: Items<Piece<Expr>>) -> Expr
     requires { are_flat_pieces pieces ≡ true }
-    ensures shown { view result ≡ tree.template (note spot) (shown.pieces_from tree.no_piece (map part.piece_parts pieces)) }
+    ensures shown { view result ≡ tree.template (spot_view spot) (shown.pieces_from tree.no_piece (map part.piece_parts pieces)) }
     ensures flat { is_flat_leaf result ≡ true }
 {
     Expr::Template(spot, pieces)
@@ -121,7 +121,7 @@ pub(crate) fn chained(
 
 pub(crate) fn made(alloc: Global, spot: Spot, class: Class<Expr>) -> Result<Expr, AllocError>
     requires { is_flat_class class ≡ true }
-    ensures shown { IfOk result (λ e. view e ≡ tree.new (note spot) (shown.class_view (part.class_parts class))) }
+    ensures shown { IfOk result (λ e. view e ≡ tree.new (spot_view spot) (shown.class_view (part.class_parts class))) }
     ensures flat { IfOk result (λ e. is_flat_leaf e ≡ true) }
 {
     Ok(Expr::New(spot, Boxed::new(alloc, class)?))
@@ -135,7 +135,7 @@ pub(crate) fn made_with(
 ) -> Result<Expr, AllocError>
     requires class { is_flat_class class ≡ true }
     requires arguments { are_flat_arguments arguments ≡ true }
-    ensures shown { IfOk result (λ e. view e ≡ tree.new_with (note spot) (shown.class_view (part.class_parts class)) (shown.arguments_from tree.none (map part.argument_parts arguments))) }
+    ensures shown { IfOk result (λ e. view e ≡ tree.new_with (spot_view spot) (shown.class_view (part.class_parts class)) (shown.arguments_from tree.none (map part.argument_parts arguments))) }
     ensures flat { IfOk result (λ e. is_flat_leaf e ≡ true) }
 {
     Ok(Expr::NewWith(spot, Boxed::new(alloc, class)?, arguments))
@@ -148,7 +148,7 @@ pub(crate) fn prefixed(
     operand: Expr,
 ) -> Result<Expr, AllocError>
     requires { is_flat operand ≡ true }
-    ensures shown { IfOk result (λ e. view e ≡ tree.prefix (note spot) op (view operand)) }
+    ensures shown { IfOk result (λ e. view e ≡ tree.prefix (spot_view spot) op (view operand)) }
     ensures flat { IfOk result (λ e. is_flat e ≡ true) }
 {
     Ok(Expr::Prefix(spot, op, Boxed::new(alloc, operand)?))
@@ -156,10 +156,10 @@ pub(crate) fn prefixed(
 
 pub(crate) fn counted(alloc: Global, operand: Expr, count: Count) -> Result<Expr, AllocError>
     requires { is_flat operand ≡ true }
-    ensures shown { IfOk result (λ e. view e ≡ tree.counted (view operand) count) }
+    ensures shown { IfOk result (λ e. view e ≡ tree.count (view operand) count) }
     ensures flat { IfOk result (λ e. is_flat e ≡ true) }
 {
-    Ok(Expr::Counted(Boxed::new(alloc, operand)?, count))
+    Ok(Expr::Count(Boxed::new(alloc, operand)?, count))
 }
 
 pub(crate) fn assigned(
@@ -187,7 +187,7 @@ pub(crate) fn referred(alloc: Global, target: Expr, source: Expr) -> Result<Expr
 
 pub(crate) fn yielded(alloc: Global, spot: Spot, value: Expr) -> Result<Expr, AllocError>
     requires { is_flat value ≡ true }
-    ensures shown { IfOk result (λ e. view e ≡ tree.yield_value (note spot) (view value)) }
+    ensures shown { IfOk result (λ e. view e ≡ tree.yield_value (spot_view spot) (view value)) }
     ensures flat { IfOk result (λ e. is_flat e ≡ true) }
 {
     Ok(Expr::Yield(spot, Boxed::new(alloc, value)?))
@@ -201,7 +201,7 @@ pub(crate) fn yielded_pair(
 ) -> Result<Expr, AllocError>
     requires key { is_flat key ≡ true }
     requires value { is_flat value ≡ true }
-    ensures shown { IfOk result (λ e. view e ≡ tree.yield_pair (note spot) (view key) (view value)) }
+    ensures shown { IfOk result (λ e. view e ≡ tree.yield_pair (spot_view spot) (view key) (view value)) }
     ensures flat { IfOk result (λ e. is_flat e ≡ true) }
 {
     Ok(Expr::YieldPair(spot, Boxed::new(alloc, key)?, Boxed::new(alloc, value)?))
@@ -210,7 +210,7 @@ pub(crate) fn yielded_pair(
 pub(crate) fn checked(alloc: Global, left: Expr, class: Expr) -> Result<Expr, AllocError>
     requires left { is_flat left ≡ true }
     requires class { is_flat class ≡ true }
-    ensures shown { IfOk result (λ e. view e ≡ tree.instance (view left) (view class)) }
+    ensures shown { IfOk result (λ e. view e ≡ tree.instance_of (view left) (view class)) }
     ensures flat { IfOk result (λ e. is_flat e ≡ true) }
 {
     Ok(Expr::InstanceOf(Boxed::new(alloc, left)?, Boxed::new(alloc, class)?))
@@ -218,7 +218,7 @@ pub(crate) fn checked(alloc: Global, left: Expr, class: Expr) -> Result<Expr, Al
 
 pub(crate) fn checked_static(alloc: Global, left: Expr, spot: Spot) -> Result<Expr, AllocError>
     requires { is_flat left ≡ true }
-    ensures shown { IfOk result (λ e. view e ≡ tree.static_instance (view left) (note spot)) }
+    ensures shown { IfOk result (λ e. view e ≡ tree.instance_of_static (view left) (spot_view spot)) }
     ensures flat { IfOk result (λ e. is_flat e ≡ true) }
 {
     Ok(Expr::InstanceOfStatic(Boxed::new(alloc, left)?, spot))

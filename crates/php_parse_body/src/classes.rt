@@ -2,8 +2,8 @@
 
 ghost use Rattle.std.specs.Prelude.{◌≡◌, ◌≤◌, ◌<◌, ◌+◌, ◌-◌, ℕ, length, true, false, Some};
 ghost use Rattle.php_ast.specs.expression.Tree.{thin, class_found, from};
-ghost use Rattle.php_grammar.specs.expression.Sign as sign;
-ghost use Rattle.php_grammar.specs.expression.Sign.{beginning, continuation, draws};
+ghost use Rattle.php_grammar.specs.expression.Role as role;
+ghost use Rattle.php_grammar.specs.expression.Role.{beginning, continuation, draws};
 ghost use Rattle.php_token.specs.Token.{token_at};
 ghost use Rattle.php_parse_body.specs.Answer.{AnswersLeaf, Ready};
 ghost use Rattle.php_parse_body.specs.ListAnswer.{AnswersClass, AnswersStep, SeesArguments, SeesStep};
@@ -48,7 +48,7 @@ fn sees_arguments(tokens: &Tokens, at: usize) -> bool
 
 /// `-> name`, a step to the name of a class.
 fn property_step(alloc: Global, tokens: &Tokens, at: usize) -> Result<Entry<ClassStep<Expr>>, Stop>
-    requires here { Shows continuation tokens.now at (draws (sign.selects thin)) }
+    requires here { Shows continuation tokens.now at (draws (role.by_select thin)) }
     ensures { (room : ℕ) → 1 ≤ room → AnswersStep room tokens.now at result }
 {
     let place = at + 1;
@@ -70,7 +70,7 @@ impl<F: Fn(Global, &Tokens, usize, u8, usize) -> Result<Read, Stop>> Reader<F> {
         room: usize,
     ) -> Result<Entry<ClassStep<Expr>>, Stop>
         requires ready { Ready self.now.bound room (F.pre self.now.expr) (F.post self.now.expr) }
-        requires here { Shows continuation tokens.now at (draws sign.subscripts) }
+        requires here { Shows continuation tokens.now at (draws role.by_index) }
         ensures { AnswersStep room tokens.now at result }
     {
         let Read {
@@ -153,7 +153,7 @@ impl<F: Fn(Global, &Tokens, usize, u8, usize) -> Result<Read, Stop>> Reader<F> {
     /// `new`, its class, and its arguments or none.
     pub(crate) fn new_object(&self, tokens: &Tokens, at: usize, room: usize) -> Result<Taken, Stop>
         requires ready { Ready self.now.bound room (F.pre self.now.expr) (F.post self.now.expr) }
-        requires here { Shows beginning tokens.now at sign.is_new }
+        requires here { Shows beginning tokens.now at role.at_new }
         ensures { AnswersLeaf room tokens.now at result }
     {
         let class = self.class(tokens, at + 1, room)?;

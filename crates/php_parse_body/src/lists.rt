@@ -4,8 +4,8 @@ ghost use Rattle.std.specs.Prelude.{◌≡◌, ◌≢◌, ◌≤◌, ◌<◌, �
 ghost use Rattle.php_ast.specs.declared.expression.Item.TheVariants.{Missing};
 ghost use Rattle.php_ast.specs.declared.operator.ArrayForm.TheVariants as array_form;
 ghost use Rattle.php_ast.specs.expression.Tree as tree;
-ghost use Rattle.php_grammar.specs.expression.Sign as sign;
-ghost use Rattle.php_grammar.specs.expression.Sign.{beginning, closes, draws};
+ghost use Rattle.php_grammar.specs.expression.Role as role;
+ghost use Rattle.php_grammar.specs.expression.Role.{beginning, closes, draws};
 ghost use Rattle.php_grammar.specs.expression.Laws.{head_continuation};
 ghost use Rattle.php_ast.specs.expression.View.{view};
 ghost use Rattle.php_parse_body.specs.Answer.{AnswersLeaf, Ready};
@@ -57,7 +57,7 @@ impl<F: Fn(Global, &Tokens, usize, u8, usize) -> Result<Read, Stop>> Reader<F> {
     ) -> Result<Entry<Argument<Expr>>, Stop>
         requires ready { Ready self.now.bound room (F.pre self.now.expr) (F.post self.now.expr) }
         requires within { at ≤ length tokens.now }
-        requires no_end { head_continuation (rest tokens.now at) ≢ closes sign.paren }
+        requires no_end { head_continuation (rest tokens.now at) ≢ closes role.paren }
         ensures { AnswersArgument room tokens.now at result }
     {
         if sees_spread(tokens, at) {
@@ -94,7 +94,7 @@ impl<F: Fn(Global, &Tokens, usize, u8, usize) -> Result<Read, Stop>> Reader<F> {
     ) -> Result<Listed<Argument<Expr>>, Stop>
         requires ready { Ready self.now.bound room (F.pre self.now.expr) (F.post self.now.expr) }
         requires within { at ≤ length tokens.now }
-        requires no_end { head_continuation (rest tokens.now at) ≢ closes sign.paren }
+        requires no_end { head_continuation (rest tokens.now at) ≢ closes role.paren }
         ensures { AnswersArguments room tokens.now at result }
     {
         let mut items = Items::new(self.alloc);
@@ -169,7 +169,7 @@ impl<F: Fn(Global, &Tokens, usize, u8, usize) -> Result<Read, Stop>> Reader<F> {
     /// `isset(..)`
     pub(crate) fn isset(&self, tokens: &Tokens, at: usize, room: usize) -> Result<Taken, Stop>
         requires ready { Ready self.now.bound room (F.pre self.now.expr) (F.post self.now.expr) }
-        requires here { Shows beginning tokens.now at (sign.lists tree.isset) }
+        requires here { Shows beginning tokens.now at (role.at_listed tree.is_set) }
         ensures { AnswersLeaf room tokens.now at result }
     {
         let paren = at + 1;
@@ -230,7 +230,7 @@ impl<F: Fn(Global, &Tokens, usize, u8, usize) -> Result<Read, Stop>> Reader<F> {
     ) -> Result<Entry<Item<Expr>>, Stop>
         requires ready { Ready self.now.bound room (F.pre self.now.expr) (F.post self.now.expr) }
         requires within { at ≤ length tokens.now }
-        requires no_comma { head_continuation (rest tokens.now at) ≢ closes sign.comma }
+        requires no_comma { head_continuation (rest tokens.now at) ≢ closes role.comma }
         requires no_end { head_continuation (rest tokens.now at) ≢ closes (closer_in form) }
         ensures { AnswersItem form room tokens.now at result }
     {
@@ -312,7 +312,7 @@ impl<F: Fn(Global, &Tokens, usize, u8, usize) -> Result<Read, Stop>> Reader<F> {
     /// `[..]`
     fn brackets(&self, tokens: &Tokens, at: usize, room: usize) -> Result<Taken, Stop>
         requires ready { Ready self.now.bound room (F.pre self.now.expr) (F.post self.now.expr) }
-        requires here { Shows beginning tokens.now at (sign.lists (tree.array array_form.Brackets)) }
+        requires here { Shows beginning tokens.now at (role.at_listed (tree.array array_form.Brackets)) }
         ensures { AnswersLeaf room tokens.now at result }
     {
         let items = self.items(tokens, at + 1, ArrayForm::Brackets, room)?;
@@ -326,7 +326,7 @@ impl<F: Fn(Global, &Tokens, usize, u8, usize) -> Result<Read, Stop>> Reader<F> {
     /// `array(..)` or `list(..)`
     fn words(&self, tokens: &Tokens, at: usize, form: ArrayForm, room: usize) -> Result<Taken, Stop>
         requires ready { Ready self.now.bound room (F.pre self.now.expr) (F.post self.now.expr) }
-        requires here { Shows beginning tokens.now at (sign.lists (tree.array form)) }
+        requires here { Shows beginning tokens.now at (role.at_listed (tree.array form)) }
         requires word { form ≢ array_form.Brackets }
         ensures { AnswersLeaf room tokens.now at result }
     {
@@ -351,7 +351,7 @@ impl<F: Fn(Global, &Tokens, usize, u8, usize) -> Result<Read, Stop>> Reader<F> {
         room: usize,
     ) -> Result<Taken, Stop>
         requires ready { Ready self.now.bound room (F.pre self.now.expr) (F.post self.now.expr) }
-        requires here { Shows beginning tokens.now at (sign.lists (tree.array form)) }
+        requires here { Shows beginning tokens.now at (role.at_listed (tree.array form)) }
         ensures { AnswersLeaf room tokens.now at result }
     {
         match form {

@@ -4,10 +4,10 @@ ghost use Rattle.std.specs.Prelude.{◌≡◌, ◌≢◌, ◌<◌, ◌^◌, ◌+
 ghost use Rattle.php_ast.specs.Symbol.{symbol};
 ghost use Rattle.php_token.specs.Token.{token_at};
 ghost use Rattle.php_ast.specs.expression.Proper.{may_name};
-ghost use Rattle.php_grammar.specs.expression.Sign.{closes, continuation, refers, spreads, is_ampersand, is_colon, is_left_brace, is_paren, is_right_bracket, is_right_paren};
+ghost use Rattle.php_grammar.specs.expression.Role.{closes, continuation, refers, spreads, is_ampersand, is_colon, is_left_brace, is_paren, is_right_bracket, is_right_paren};
 ghost use Rattle.php_grammar.specs.expression.Laws.{head_continuation};
 ghost use Rattle.php_ast.specs.expression.Placed.{notes_of};
-ghost use Rattle.php_ast.specs.expression.View.{note};
+ghost use Rattle.php_ast.specs.expression.View.{spot_view};
 ghost use Rattle.php_parse_body.specs.Seen.{Stands, Shows, rest, Follows, Starts, SeesMark, Tests, IsNamed, ShowsWord, ShowsMember, Words, head_member, head_word, SeesClass, SeesMold};
 ghost use Rattle.php_parse_body.specs.SignView.{SeesOpening};
 ghost use Rattle.php_token.specs.declared.kind.TokenKind.TheVariants.{Int, Variable};
@@ -144,7 +144,7 @@ pub(crate) fn sees_colon(tokens: &Tokens, at: usize) -> bool
 
 pub(crate) fn spot(tokens: &Tokens, at: usize) -> Spot
     requires { at < length tokens.now }
-    ensures { note result ≡ (notes_of tokens.now).token at }
+    ensures { spot_view result ≡ (notes_of tokens.now).token at }
 {
     Spot {
         place: at,

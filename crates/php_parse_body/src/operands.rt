@@ -3,8 +3,8 @@
 ghost use Rattle.std.specs.Prelude.{◌≡◌, ◌≤◌, ◌<◌, ◌+◌, ◌-◌, ℕ, length, true, false, IfOk};
 ghost use Rattle.php_token.specs.Token.{token_at};
 ghost use Rattle.php_ast.specs.expression.Tree as tree;
-ghost use Rattle.php_grammar.specs.expression.Sign as sign;
-ghost use Rattle.php_grammar.specs.expression.Sign.{beginning, continuation};
+ghost use Rattle.php_grammar.specs.expression.Role as role;
+ghost use Rattle.php_grammar.specs.expression.Role.{beginning, continuation};
 ghost use Rattle.php_ast.specs.expression.View.{view};
 ghost use Rattle.php_ast.specs.expression.Placed.{notes_of};
 ghost use Rattle.php_parse_body.specs.Answer.{AnswersLeaf, Ready};
@@ -39,7 +39,7 @@ fn leaf_expr(alloc: Global, tokens: &Tokens, at: usize, kind: LeafKind) -> Resul
 }
 
 fn single(alloc: Global, tokens: &Tokens, at: usize, kind: LeafKind) -> Result<Taken, Stop>
-    requires here { Shows beginning tokens.now at (sign.is_leaf (leaf_view kind (token_at tokens.now at).text)) }
+    requires here { Shows beginning tokens.now at (role.at_leaf (leaf_view kind (token_at tokens.now at).text)) }
     ensures { (room : ℕ) → 1 ≤ room → AnswersLeaf room tokens.now at result }
 {
     Ok(Taken {
@@ -51,8 +51,8 @@ fn single(alloc: Global, tokens: &Tokens, at: usize, kind: LeafKind) -> Result<T
 
 /// `static :: name`
 fn static_member(alloc: Global, tokens: &Tokens, at: usize) -> Result<Taken, Stop>
-    requires here { Shows beginning tokens.now at sign.is_static }
-    requires colons { Shows continuation tokens.now (at + 1) (sign.draws (sign.selects tree.colons)) }
+    requires here { Shows beginning tokens.now at role.at_static }
+    requires colons { Shows continuation tokens.now (at + 1) (role.draws (role.by_select tree.colons)) }
     ensures { (room : ℕ) → 1 ≤ room → AnswersLeaf room tokens.now at result }
 {
     let colons = at + 1;
@@ -70,7 +70,7 @@ impl<F: Fn(Global, &Tokens, usize, u8, usize) -> Result<Read, Stop>> Reader<F> {
     /// `(..)`
     fn group(&self, tokens: &Tokens, at: usize, room: usize) -> Result<Taken, Stop>
         requires ready { Ready self.now.bound room (F.pre self.now.expr) (F.post self.now.expr) }
-        requires here { Shows beginning tokens.now at (sign.encloses tree.parentheses) }
+        requires here { Shows beginning tokens.now at (role.at_enclosed tree.parentheses) }
         ensures { AnswersLeaf room tokens.now at result }
     {
         let inside = self.deeper(tokens, at + 1, 1, room)?;
@@ -87,7 +87,7 @@ impl<F: Fn(Global, &Tokens, usize, u8, usize) -> Result<Read, Stop>> Reader<F> {
     /// `empty(..)`
     fn empty(&self, tokens: &Tokens, at: usize, room: usize) -> Result<Taken, Stop>
         requires ready { Ready self.now.bound room (F.pre self.now.expr) (F.post self.now.expr) }
-        requires here { Shows beginning tokens.now at (sign.encloses tree.emptiness) }
+        requires here { Shows beginning tokens.now at (role.at_enclosed tree.emptiness) }
         ensures { AnswersLeaf room tokens.now at result }
     {
         let paren = at + 1;
@@ -108,7 +108,7 @@ impl<F: Fn(Global, &Tokens, usize, u8, usize) -> Result<Read, Stop>> Reader<F> {
     /// `exit`, `exit()` and `exit(..)`
     fn exit(&self, tokens: &Tokens, at: usize, room: usize) -> Result<Taken, Stop>
         requires ready { Ready self.now.bound room (F.pre self.now.expr) (F.post self.now.expr) }
-        requires here { Shows beginning tokens.now at sign.is_exit }
+        requires here { Shows beginning tokens.now at role.at_exit }
         ensures { AnswersLeaf room tokens.now at result }
     {
         let paren = at + 1;
@@ -150,7 +150,7 @@ impl<F: Fn(Global, &Tokens, usize, u8, usize) -> Result<Read, Stop>> Reader<F> {
     ) -> Result<Taken, Stop>
         requires ready { Ready self.now.bound room (F.pre self.now.expr) (F.post self.now.expr) }
         requires here { Shows beginning tokens.now at (opening_view opening (token_at tokens.now at).text) }
-        requires colons { opening ≡ Static → Shows continuation tokens.now (at + 1) (sign.draws (sign.selects tree.colons)) }
+        requires colons { opening ≡ Static → Shows continuation tokens.now (at + 1) (role.draws (role.by_select tree.colons)) }
         ensures { AnswersLeaf room tokens.now at result }
     {
         match opening {

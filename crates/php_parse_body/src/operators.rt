@@ -4,10 +4,10 @@ ghost use Rattle.std.specs.Prelude.{◌≡◌, ◌≤◌, ◌<◌, ◌+◌, ◌-
 ghost use Rattle.php_token.specs.Token.{token_at};
 ghost use Rattle.php_ast.specs.expression.Tree.{colons};
 ghost use Rattle.php_ast.specs.expression.Nesting.{right_depth};
-ghost use Rattle.php_ast.specs.Power.{binary_row, choice_row, instance_row};
+ghost use Rattle.php_ast.specs.Power.{binary_row, choice_row, instance_of_row};
 ghost use Rattle.php_ast.specs.expression.Proper.{edge};
-ghost use Rattle.php_grammar.specs.expression.Sign as sign;
-ghost use Rattle.php_grammar.specs.expression.Sign.{beginning, closes, continuation, draws, draw_strength, is_colon};
+ghost use Rattle.php_grammar.specs.expression.Role as role;
+ghost use Rattle.php_grammar.specs.expression.Role.{beginning, closes, continuation, draws, draw_strength, is_colon};
 ghost use Rattle.php_parse_body.specs.Answer.{AnswersBehind, Ready};
 ghost use Rattle.php_parse_body.specs.Climb.{AnswersHalf, AnswersOnward};
 ghost use Rattle.php_parse_body.specs.declared.sign.Opening.TheVariants.{Static};
@@ -21,7 +21,7 @@ use crate::pending::{Between, Onward, Pending, edge_of, right_of};
 use crate::prefixes::lacks_colons;
 use crate::reader::{Read, Reader, discard, unclosed};
 use crate::sign::{Closer, Infix, Opening};
-use php_ast::{Binary, Grouping, row_of, row_of_instanceof};
+use php_ast::{Binary, Grouping, row_of, row_of_instance_of};
 use php_lex::Tokens;
 use sqlite_items::Boxed;
 use std::alloc::Global;
@@ -39,9 +39,9 @@ fn depth_of(op: Binary) -> usize
 
 /// What must be more than the power of an operator behind `instanceof` and its class.
 fn checked_edge() -> u8
-    ensures { result ≡ edge instance_row }
+    ensures { result ≡ edge instance_of_row }
 {
-    edge_of(row_of_instanceof())
+    edge_of(row_of_instance_of())
 }
 
 /// Goes on behind `left` and the middle of a `? :`, from the `:` on.
@@ -52,7 +52,7 @@ fn half_chosen(
     middle: Read,
     level: u8,
 ) -> Result<Onward, Stop>
-    requires colon { Shows continuation tokens.now middle.next (closes sign.colon) }
+    requires colon { Shows continuation tokens.now middle.next (closes role.colon) }
     requires near { level ≤ choice_row.power }
     ensures { (room : ℕ) → 2 ≤ room → AnswersHalf left middle level room tokens.now result }
 {
@@ -72,7 +72,7 @@ impl<F: Fn(Global, &Tokens, usize, u8, usize) -> Result<Read, Stop>> Reader<F> {
     /// Goes on behind `left` with an operator that groups to the right.
     fn to_right(&self, tokens: &Tokens, left: Read, op: Binary, room: usize) -> Result<Read, Stop>
         requires ready { Ready self.now.bound room (F.pre self.now.expr) (F.post self.now.expr) }
-        requires here { Shows continuation tokens.now left.next (draws (sign.joins op)) }
+        requires here { Shows continuation tokens.now left.next (draws (role.by_binary op)) }
         requires deeper { right_depth (binary_row op).grouping ≡ 1 }
         requires low { (binary_row op).power < left.edge }
         ensures { (level : ℕ) → level ≤ (binary_row op).power → AnswersBehind left level room tokens.now result }
@@ -96,7 +96,7 @@ impl<F: Fn(Global, &Tokens, usize, u8, usize) -> Result<Read, Stop>> Reader<F> {
         room: usize,
     ) -> Result<Onward, Stop>
         requires ready { Ready self.now.bound room (F.pre self.now.expr) (F.post self.now.expr) }
-        requires here { Shows continuation tokens.now left.next (draws (sign.joins op)) }
+        requires here { Shows continuation tokens.now left.next (draws (role.by_binary op)) }
         requires near { level ≤ (binary_row op).power }
         requires low { (binary_row op).power < left.edge }
         ensures { AnswersOnward left level room tokens.now result }
@@ -117,7 +117,7 @@ impl<F: Fn(Global, &Tokens, usize, u8, usize) -> Result<Read, Stop>> Reader<F> {
     /// Goes on behind `left` with `? :`, from the `?` on, into its right side.
     fn chosen(&self, tokens: &Tokens, left: Read, level: u8, room: usize) -> Result<Onward, Stop>
         requires ready { Ready self.now.bound room (F.pre self.now.expr) (F.post self.now.expr) }
-        requires here { Shows continuation tokens.now left.next (draws sign.chooses) }
+        requires here { Shows continuation tokens.now left.next (draws role.by_choice) }
         requires near { level ≤ choice_row.power }
         requires low { choice_row.power < left.edge }
         ensures { AnswersOnward left level room tokens.now result }
@@ -152,11 +152,11 @@ impl<F: Fn(Global, &Tokens, usize, u8, usize) -> Result<Read, Stop>> Reader<F> {
         room: usize,
     ) -> Result<Read, Stop>
         requires ready { Ready self.now.bound room (F.pre self.now.expr) (F.post self.now.expr) }
-        requires here { Shows continuation tokens.now left.next (draws sign.checks) }
+        requires here { Shows continuation tokens.now left.next (draws role.by_instance_of) }
         requires begins { Shows beginning tokens.now (left.next + 1) (opening_view opening (token_at tokens.now (left.next + 1)).text) }
-        requires colons { opening ≡ Static → Shows continuation tokens.now (left.next + 1 + 1) (draws (sign.selects colons)) }
-        requires low { instance_row.power < left.edge }
-        ensures { (level : ℕ) → level ≤ instance_row.power → AnswersBehind left level room tokens.now result }
+        requires colons { opening ≡ Static → Shows continuation tokens.now (left.next + 1 + 1) (draws (role.by_select colons)) }
+        requires low { instance_of_row.power < left.edge }
+        ensures { (level : ℕ) → level ≤ instance_of_row.power → AnswersBehind left level room tokens.now result }
     {
         let class = self.operand(tokens, left.next + 1, opening, room)?;
         if class.is_call {
@@ -172,9 +172,9 @@ impl<F: Fn(Global, &Tokens, usize, u8, usize) -> Result<Read, Stop>> Reader<F> {
     /// Goes on behind `left` with `instanceof`.
     fn checked(&self, tokens: &Tokens, left: Read, room: usize) -> Result<Read, Stop>
         requires ready { Ready self.now.bound room (F.pre self.now.expr) (F.post self.now.expr) }
-        requires here { Shows continuation tokens.now left.next (draws sign.checks) }
-        requires low { instance_row.power < left.edge }
-        ensures { (level : ℕ) → level ≤ instance_row.power → AnswersBehind left level room tokens.now result }
+        requires here { Shows continuation tokens.now left.next (draws role.by_instance_of) }
+        requires low { instance_of_row.power < left.edge }
+        ensures { (level : ℕ) → level ≤ instance_of_row.power → AnswersBehind left level room tokens.now result }
     {
         let at = left.next + 1;
         let Some(opening) = opening_at(tokens, at) else {

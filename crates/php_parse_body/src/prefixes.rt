@@ -5,8 +5,8 @@ ghost use Rattle.php_token.specs.Token.{token_at};
 ghost use Rattle.php_ast.specs.expression.Tree.{colons};
 ghost use Rattle.php_ast.specs.Power.{assign_row, yield_power};
 ghost use Rattle.php_ast.specs.expression.Proper.{edge, right};
-ghost use Rattle.php_grammar.specs.expression.Sign as sign;
-ghost use Rattle.php_grammar.specs.expression.Sign.{beginning, closes, continuation, draws, ends_yield, is_ampersand};
+ghost use Rattle.php_grammar.specs.expression.Role as role;
+ghost use Rattle.php_grammar.specs.expression.Role.{beginning, closes, continuation, draws, ends_yield, is_ampersand};
 ghost use Rattle.php_ast.specs.declared.operator.Assign.TheVariants.{Plain};
 ghost use Rattle.php_grammar.specs.expression.Laws.{head_continuation};
 ghost use Rattle.php_parse_body.specs.declared.sign.Opening.TheVariants.{Static};
@@ -86,7 +86,7 @@ impl<F: Fn(Global, &Tokens, usize, u8, usize) -> Result<Read, Stop>> Reader<F> {
     /// A prefix operator and its operand.
     fn prefix(&self, tokens: &Tokens, at: usize, op: Prefix, room: usize) -> Result<Read, Stop>
         requires ready { Ready self.now.bound room (F.pre self.now.expr) (F.post self.now.expr) }
-        requires here { Shows beginning tokens.now at (sign.prefixes op) }
+        requires here { Shows beginning tokens.now at (role.at_prefix op) }
         ensures { AnswersHere room 50 50 tokens.now at result }
     {
         let power = prefix_power_of(op);
@@ -107,7 +107,7 @@ impl<F: Fn(Global, &Tokens, usize, u8, usize) -> Result<Read, Stop>> Reader<F> {
         room: usize,
     ) -> Result<Read, Stop>
         requires ready { Ready self.now.bound room (F.pre self.now.expr) (F.post self.now.expr) }
-        requires here { Shows continuation tokens.now left.next (draws (sign.sets op)) }
+        requires here { Shows continuation tokens.now left.next (draws (role.by_assign op)) }
         requires no_reference { op ≡ Plain → test is_ampersand (rest tokens.now (left.next + 1)) ≡ false }
         ensures { AnswersAssigned left room tokens.now result }
     {
@@ -122,7 +122,7 @@ impl<F: Fn(Global, &Tokens, usize, u8, usize) -> Result<Read, Stop>> Reader<F> {
     /// The source that `left` is made an alias of, from the `=` on.
     fn by_reference(&self, tokens: &Tokens, left: Operand, room: usize) -> Result<Read, Stop>
         requires ready { Ready self.now.bound room (F.pre self.now.expr) (F.post self.now.expr) }
-        requires here { Shows continuation tokens.now left.next (draws (sign.sets Plain)) }
+        requires here { Shows continuation tokens.now left.next (draws (role.by_assign Plain)) }
         requires reference { Shows is_ampersand tokens.now (left.next + 1) true }
         ensures { AnswersAssigned left room tokens.now result }
     {
@@ -144,7 +144,7 @@ impl<F: Fn(Global, &Tokens, usize, u8, usize) -> Result<Read, Stop>> Reader<F> {
         room: usize,
     ) -> Result<Read, Stop>
         requires ready { Ready self.now.bound room (F.pre self.now.expr) (F.post self.now.expr) }
-        requires here { Shows continuation tokens.now left.next (draws (sign.sets op)) }
+        requires here { Shows continuation tokens.now left.next (draws (role.by_assign op)) }
         ensures { AnswersAssigned left room tokens.now result }
     {
         if let Assign::Plain = op {
@@ -183,7 +183,7 @@ impl<F: Fn(Global, &Tokens, usize, u8, usize) -> Result<Read, Stop>> Reader<F> {
     /// `yield key => value`, from the `=>` on.
     fn yield_pair(&self, tokens: &Tokens, at: usize, key: Read, room: usize) -> Result<Read, Stop>
         requires ready { Ready self.now.bound room (F.pre self.now.expr) (F.post self.now.expr) }
-        requires arrow { Shows continuation tokens.now key.next (closes sign.double_arrow) }
+        requires arrow { Shows continuation tokens.now key.next (closes role.double_arrow) }
         requires start { at < length tokens.now }
         requires deep { 2 ≤ room }
         ensures { AnswersYield key room tokens.now at result }
@@ -199,7 +199,7 @@ impl<F: Fn(Global, &Tokens, usize, u8, usize) -> Result<Read, Stop>> Reader<F> {
     /// `yield` alone, with a value, or with a key and a value.
     fn yielding(&self, tokens: &Tokens, at: usize, room: usize) -> Result<Read, Stop>
         requires ready { Ready self.now.bound room (F.pre self.now.expr) (F.post self.now.expr) }
-        requires here { Shows beginning tokens.now at sign.is_yield }
+        requires here { Shows beginning tokens.now at role.at_yield }
         ensures { AnswersHere room 50 50 tokens.now at result }
     {
         if yields_nothing(tokens, at + 1) {

@@ -2,14 +2,14 @@
 
 ghost use Rattle.std.specs.Prelude.{◌≡◌, ℕ, ℤ, List, true, false};
 ghost use Rattle.php_ast.specs.Symbol.{symbol_of};
-ghost use Rattle.php_grammar.specs.expression.Sign.{beginning, beginning_keyword, beginning_punct, beginning_cast, continuation, continuation_keyword, continuation_punct, item_mark, draw_strength, draws, is_leaf, refers, spreads};
-ghost use Rattle.php_grammar.specs.expression.Sign as sign;
+ghost use Rattle.php_grammar.specs.expression.Role.{beginning, beginning_keyword, beginning_punct, beginning_cast, continuation, continuation_keyword, continuation_punct, item_mark, draw_strength, draws, at_leaf, refers, spreads};
+ghost use Rattle.php_grammar.specs.expression.Role as role;
 ghost use Rattle.php_ast.specs.expression.Tree as tree;
 ghost use Rattle.php_parse_body.specs.SignView.{start_view, leaf_view, next_view, infix_view, tail_view, IsMark, class_kind_view, mold_view};
 ghost use Rattle.php_parse_body.specs.Seen.{named_class, mold};
 
 use php_ast::{
-    ArrayForm, Assign, Binary, Count, Magic, Prefix, row_of, row_of_choice, row_of_instanceof,
+    ArrayForm, Assign, Binary, Count, Magic, Prefix, row_of, row_of_choice, row_of_instance_of,
 };
 use php_lex::{Cast, Keyword, Punct, TokenKind};
 
@@ -116,13 +116,13 @@ pub(crate) enum Mold {
 }
 
 fn leaf(kind: LeafKind) -> Start
-    ensures { (text : List ℕ) → start_view result text ≡ is_leaf (leaf_view kind text) }
+    ensures { (text : List ℕ) → start_view result text ≡ at_leaf (leaf_view kind text) }
 {
     Start::Operand(Opening::Leaf(kind))
 }
 
 fn magic(constant: Magic) -> Start
-    ensures { (text : List ℕ) → start_view result text ≡ is_leaf (tree.magic constant) }
+    ensures { (text : List ℕ) → start_view result text ≡ at_leaf (tree.magic constant) }
 {
     leaf(LeafKind::Magic(constant))
 }
@@ -197,7 +197,7 @@ pub(crate) fn start_of(kind: TokenKind, value: i64) -> Start
 }
 
 fn joins(op: Binary) -> Next
-    ensures { next_view result ≡ draws (sign.joins op) }
+    ensures { next_view result ≡ draws (role.by_binary op) }
 {
     Next::Operator(Infix::Joins(op))
 }
@@ -248,8 +248,8 @@ fn next_of_punct(punct: Punct) -> Next
         Punct::Caret => joins(Binary::BitXor),
         Punct::Bar => joins(Binary::BitOr),
         Punct::Ampersand => joins(Binary::BitAnd),
-        Punct::AndAnd => joins(Binary::And),
-        Punct::BarBar => joins(Binary::Or),
+        Punct::AndAnd => joins(Binary::LogicalAnd),
+        Punct::BarBar => joins(Binary::LogicalOr),
         Punct::Question => Next::Operator(Infix::Chooses),
         Punct::Colon => Next::Closes(Closer::Colon),
         Punct::Semicolon => Next::Closes(Closer::Semicolon),
@@ -291,7 +291,7 @@ pub(crate) fn infix_strength(op: Infix) -> u8
 {
     match op {
         Infix::Joins(binary) => row_of(binary).power,
-        Infix::Checks => row_of_instanceof().power,
+        Infix::Checks => row_of_instance_of().power,
         Infix::Chooses => row_of_choice().power,
     }
 }

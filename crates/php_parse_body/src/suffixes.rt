@@ -4,8 +4,8 @@ ghost use Rattle.std.specs.Prelude.{◌≡◌, ◌≤◌, ◌<◌, ◌+◌, ◌-
 ghost use Rattle.php_token.specs.Token.{token_at};
 ghost use Rattle.php_ast.specs.expression.Proper.{ends};
 ghost use Rattle.php_ast.specs.expression.Placed.{size};
-ghost use Rattle.php_grammar.specs.expression.Sign as sign;
-ghost use Rattle.php_grammar.specs.expression.Sign.{beginning, continuation, draws, draw_strength, is_left_brace};
+ghost use Rattle.php_grammar.specs.expression.Role as role;
+ghost use Rattle.php_grammar.specs.expression.Role.{beginning, continuation, draws, draw_strength, is_left_brace};
 ghost use Rattle.php_grammar.specs.expression.Machine.{Form};
 ghost use Rattle.php_ast.specs.expression.Tree.{thin, colons};
 ghost use Rattle.php_parse_body.specs.Answer.{AnswersOperand, AnswersSuffix, Ready, SeesTail};
@@ -25,7 +25,7 @@ use std::alloc::Global;
 
 /// `:: name`
 fn member(alloc: Global, tokens: &Tokens, at: usize) -> Result<Followed, Stop>
-    requires here { Shows continuation tokens.now at (draws (sign.selects colons)) }
+    requires here { Shows continuation tokens.now at (draws (role.by_select colons)) }
     ensures { (room : ℕ) (f : Form) (start : ℕ) → 1 ≤ room → start + size f ≡ at → 100 < ends f → AnswersSuffix room f tokens.now start at result }
 {
     let place = at + 1;
@@ -41,7 +41,7 @@ fn member(alloc: Global, tokens: &Tokens, at: usize) -> Result<Followed, Stop>
 
 /// `-> name`
 fn property(alloc: Global, tokens: &Tokens, at: usize) -> Result<Followed, Stop>
-    requires here { Shows continuation tokens.now at (draws (sign.selects thin)) }
+    requires here { Shows continuation tokens.now at (draws (role.by_select thin)) }
     requires no_brace { test is_left_brace (rest tokens.now (at + 1)) ≡ false }
     ensures { (room : ℕ) (f : Form) (start : ℕ) → 1 ≤ room → start + size f ≡ at → 100 < ends f → AnswersSuffix room f tokens.now start at result }
 {
@@ -73,7 +73,7 @@ impl<F: Fn(Global, &Tokens, usize, u8, usize) -> Result<Read, Stop>> Reader<F> {
     /// `[]` and `[key]`
     fn index(&self, tokens: &Tokens, at: usize, room: usize) -> Result<Followed, Stop>
         requires ready { Ready self.now.bound room (F.pre self.now.expr) (F.post self.now.expr) }
-        requires here { Shows continuation tokens.now at (draws sign.subscripts) }
+        requires here { Shows continuation tokens.now at (draws role.by_index) }
         ensures { (f : Form) (start : ℕ) → start + size f ≡ at → 100 < ends f → AnswersSuffix room f tokens.now start at result }
     {
         let inside = at + 1;
@@ -105,7 +105,7 @@ impl<F: Fn(Global, &Tokens, usize, u8, usize) -> Result<Read, Stop>> Reader<F> {
     /// `-> {name}`
     fn computed(&self, tokens: &Tokens, at: usize, room: usize) -> Result<Followed, Stop>
         requires ready { Ready self.now.bound room (F.pre self.now.expr) (F.post self.now.expr) }
-        requires here { Shows continuation tokens.now at (draws (sign.selects thin)) }
+        requires here { Shows continuation tokens.now at (draws (role.by_select thin)) }
         requires brace { Shows is_left_brace tokens.now (at + 1) true }
         ensures { (f : Form) (start : ℕ) → start + size f ≡ at → 100 < ends f → AnswersSuffix room f tokens.now start at result }
     {
@@ -128,7 +128,7 @@ impl<F: Fn(Global, &Tokens, usize, u8, usize) -> Result<Read, Stop>> Reader<F> {
     /// `(arguments)`
     fn call(&self, tokens: &Tokens, at: usize, room: usize) -> Result<Followed, Stop>
         requires ready { Ready self.now.bound room (F.pre self.now.expr) (F.post self.now.expr) }
-        requires here { Shows continuation tokens.now at (draws sign.applies) }
+        requires here { Shows continuation tokens.now at (draws role.by_call) }
         ensures { (f : Form) (start : ℕ) → start + size f ≡ at → 110 < ends f → AnswersSuffix room f tokens.now start at result }
     {
         let arguments = self.arguments(tokens, at + 1, room)?;
@@ -142,7 +142,7 @@ impl<F: Fn(Global, &Tokens, usize, u8, usize) -> Result<Read, Stop>> Reader<F> {
     /// `->` and what follows it.
     fn selection(&self, tokens: &Tokens, at: usize, room: usize) -> Result<Followed, Stop>
         requires ready { Ready self.now.bound room (F.pre self.now.expr) (F.post self.now.expr) }
-        requires here { Shows continuation tokens.now at (draws (sign.selects thin)) }
+        requires here { Shows continuation tokens.now at (draws (role.by_select thin)) }
         ensures { (f : Form) (start : ℕ) → start + size f ≡ at → 100 < ends f → AnswersSuffix room f tokens.now start at result }
     {
         if sees_left_brace(tokens, at + 1) {
@@ -175,7 +175,7 @@ impl<F: Fn(Global, &Tokens, usize, u8, usize) -> Result<Read, Stop>> Reader<F> {
     ) -> Result<Operand, Stop>
         requires ready { Ready self.now.bound room (F.pre self.now.expr) (F.post self.now.expr) }
         requires here { Shows beginning tokens.now at (opening_view opening (token_at tokens.now at).text) }
-        requires colons { opening ≡ Static → Shows continuation tokens.now (at + 1) (draws (sign.selects colons)) }
+        requires colons { opening ≡ Static → Shows continuation tokens.now (at + 1) (draws (role.by_select colons)) }
         ensures { AnswersOperand room tokens.now at result }
     {
         let Taken {

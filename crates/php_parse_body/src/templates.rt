@@ -1,8 +1,8 @@
 // Texts with parts.
 
 ghost use Rattle.std.specs.Prelude.{◌≡◌, ◌≤◌, ◌<◌, ◌+◌, ◌-◌, ℕ, length, true, false};
-ghost use Rattle.php_grammar.specs.expression.Sign as sign;
-ghost use Rattle.php_grammar.specs.expression.Sign.{beginning};
+ghost use Rattle.php_grammar.specs.expression.Role as role;
+ghost use Rattle.php_grammar.specs.expression.Role.{beginning};
 ghost use Rattle.php_parse_body.specs.Answer.{AnswersLeaf, Ready};
 ghost use Rattle.php_parse_body.specs.ListAnswer.{AnswersPart, AnswersPieces};
 ghost use Rattle.php_parse_body.specs.Seen.{Shows, is_opened, mold};
@@ -71,7 +71,7 @@ impl<F: Fn(Global, &Tokens, usize, u8, usize) -> Result<Read, Stop>> Reader<F> {
     /// A text with parts.
     pub(crate) fn template(&self, tokens: &Tokens, at: usize, room: usize) -> Result<Taken, Stop>
         requires ready { Ready self.now.bound room (F.pre self.now.expr) (F.post self.now.expr) }
-        requires here { Shows beginning tokens.now at sign.is_quote }
+        requires here { Shows beginning tokens.now at role.at_template }
         ensures { AnswersLeaf room tokens.now at result }
     {
         let pieces = self.pieces(tokens, at + 1, room)?;

@@ -136,7 +136,7 @@ node_kept (Expr-F.Chain w suffixes) h = chain_kept w suffixes h
 node_kept (Expr-F.New spot c) h = record { same = ap (λ z. roll-Expr (Expr-F.New spot z)) (class_back c h); top = refl }
 node_kept (Expr-F.NewWith spot c arguments) h = new_with_kept spot c arguments h
 node_kept (Expr-F.Prefix spot op w) h = record { same = ap (λ z. roll-Expr (Expr-F.Prefix spot op z)) (back w h); top = refl }
-node_kept (Expr-F.Counted w count) h = record { same = ap (λ z. roll-Expr (Expr-F.Counted z count)) (back w h); top = refl }
+node_kept (Expr-F.Count w count) h = record { same = ap (λ z. roll-Expr (Expr-F.Count z count)) (back w h); top = refl }
 node_kept (Expr-F.Run w links) h = run_kept w links h
 node_kept (Expr-F.Binary op v w) h = binary_kept op v w h
 node_kept (Expr-F.InstanceOf v w) h = record { same = two_back (λ x z. roll-Expr (Expr-F.InstanceOf x z)) v w h; top = refl }

@@ -26,8 +26,8 @@ use Rattle.php_ast.specs.declared.expression.ClassStep.TheVariants as class_step
 use Rattle.php_ast.specs.declared.expression.Link.{Link}
 use Rattle.php_ast.specs.declared.expression.Link.TheVariants as link
 use Rattle.php_ast.specs.Power.{binary_row, choice_row}
-use Rattle.php_ast.specs.expression.Tree.{Leaf, variable, int, string, name, magic, Enclosure, parentheses, emptiness, exiting, Listing, array, isset, Arrow, thin, colons, Setting, by_value, by_reference, Member, named, reserved, held}
-use Rattle.php_ast.specs.expression.Tree.{Tree, leaf, template, enclosed, listed, exit, exit_empty, static_member, append, index, selected, computed, call, new, new_with, prefix, counted, binary, instance, static_instance, choice, short_choice, assign, yield_nothing, yield_value, yield_pair}
+use Rattle.php_ast.specs.expression.Tree.{Leaf, variable, int, string, name, magic, Enclosure, parentheses, emptiness, exiting, Listing, array, is_set, Arrow, thin, colons, Setting, by_value, by_reference, Member, named, reserved, held}
+use Rattle.php_ast.specs.expression.Tree.{Tree, leaf, template, enclosed, listed, exit, exit_empty, static_member, append, index, selected, computed, call, new, new_with, prefix, count, binary, instance_of, instance_of_static, choice, short_choice, assign, yield_nothing, yield_value, yield_pair}
 use Rattle.php_ast.specs.expression.Tree.{Items, none, and, skip, Lead, plain, reference, spread, keyed, keyed_reference, Pieces, no_piece, bytes, value, Class, class_name, class_static, class_found, Steps, from, step_property, step_index}
 use Rattle.php_ast.specs.expression.View.{Note}
 use Rattle.php_parse_body.specs.Flat.{Top, chain, run, other, is_left}
@@ -111,7 +111,7 @@ enclosed_at n exiting e = roll-Expr (Expr-F.ExitWith (spot_at n) e)
 
 abbrev pub listed_at : Note → Listing → List (Item Expr) → List Expr → Expr
 listed_at n (array form) items values = roll-Expr (Expr-F.Array (spot_at n) form items)
-listed_at n isset items values = roll-Expr (Expr-F.IsSet (spot_at n) values)
+listed_at n is_set items values = roll-Expr (Expr-F.IsSet (spot_at n) values)
 
 abbrev pub selected_at : Built → Arrow → Member Note → Built
 selected_at e thin m = suffixed e (suffix.Property (named_at m))
@@ -142,10 +142,10 @@ abbrev mutual
   unview (new n c) = apart (roll-Expr (Expr-F.New (spot_at n) (unview_class c)))
   unview (new_with n c items) = apart (roll-Expr (Expr-F.NewWith (spot_at n) (unview_class c) (unview_arguments items)))
   unview (prefix n op e) = apart (roll-Expr (Expr-F.Prefix (spot_at n) op (close (unview e))))
-  unview (counted e count) = apart (roll-Expr (Expr-F.Counted (close (unview e)) count))
+  unview (count e way) = apart (roll-Expr (Expr-F.Count (close (unview e)) way))
   unview (binary op l r) = joined (is_left (binary_row op).grouping) op (unview l) (close (unview r))
-  unview (instance l r) = apart (roll-Expr (Expr-F.InstanceOf (close (unview l)) (close (unview r))))
-  unview (static_instance l n) = apart (roll-Expr (Expr-F.InstanceOfStatic (close (unview l)) (spot_at n)))
+  unview (instance_of l r) = apart (roll-Expr (Expr-F.InstanceOf (close (unview l)) (close (unview r))))
+  unview (instance_of_static l n) = apart (roll-Expr (Expr-F.InstanceOfStatic (close (unview l)) (spot_at n)))
   unview (choice e a b) = linked choice_row.power (unview e) (link.Choice (close (unview a)) (close (unview b)))
   unview (short_choice e b) = linked choice_row.power (unview e) (link.ShortChoice (close (unview b)))
   unview (assign setting l r) = apart (assigned setting (close (unview l)) (close (unview r)))

@@ -113,7 +113,7 @@ impl Printer {
                 self.class_with(class.get(), arguments.as_slice(), depth)
             }
             Expr::Prefix(_, op, operand) => self.prefix(prefix_sign(*op), operand.get(), depth),
-            Expr::Counted(operand, count) => self.counted(operand.get(), count_sign(*count), depth),
+            Expr::Count(operand, count) => self.counted(operand.get(), count_sign(*count), depth),
             Expr::Run(first, links) => self.run(first.get(), links.as_slice(), depth),
             Expr::Binary(op, left, right) => {
                 self.pair(left.get(), binary_sign(*op), right.get(), depth)

@@ -1,4 +1,2 @@
-mod Weights
-mod Lists
-mod Views
-mod StatementWeights
+pub mod Weights
+pub mod Lists

@@ -1,7 +1,6 @@
 -- The spelling of lists, element by element from the first one on.
-use Rattle.std.proofs.Common.{◌≡◌, ◌≤◌, ◌<◌, ℕ, ◌+◌, Bool, true, false, Option, Some, None, List, [], ◌∷◌, ◌++◌, map, drop, length, get_or, refl, sym, ◌∙◌, ap}
-use Rattle.std.specs.Prelude.{Result, OnOk, ◌==◌}
-use Rattle.php_ast.specs.declared.spot.Name as rust_name
+use Rattle.std.proofs.Common.{◌≡◌, ◌≤◌, ◌<◌, ℕ, ◌+◌, Bool, true, false, List, [], ◌∷◌, ◌++◌, map, drop, length, get_or, refl, sym, ◌∙◌, ap}
+use Rattle.std.specs.Prelude.{Result, OnOk}
 use Rattle.std.proofs.lemmas.Result.{on_ok_weaker}
 use Rattle.std.proofs.lemmas.List.{at_drop_more, at_drop_all}
 use Rattle.php_token.specs.declared.kind.Punct.TheVariants as mark
@@ -19,23 +18,11 @@ use Rattle.php_ast.specs.declared.expression.ClassStep.{ClassStep}
 use Rattle.php_ast.specs.declared.expression.ClassStep.TheVariants as class_step
 use Rattle.php_ast.specs.declared.expression.Link.{Link}
 use Rattle.php_ast.specs.declared.expression.Link.TheVariants as link
-use Rattle.php_ast.specs.declared.statement.ElseIf.{ElseIf}
-use Rattle.php_ast.specs.declared.statement.Case.{Case}
-use Rattle.php_ast.specs.declared.statement.Catch.{Catch}
-use Rattle.php_token.specs.declared.kind.Keyword.TheVariants as word
-use Rattle.php_ast.specs.Symbol.{Symbol, keyword, punct}
+use Rattle.php_ast.specs.Symbol.{Symbol, punct}
 use Rattle.php_ast.specs.expression.Tree.{Tree, Items, none, and, skip, plain, Pieces, Steps}
 use Rattle.php_ast.specs.expression.Spelling.{spell, comma, spell_items, spell_pieces, spell_steps}
-use Rattle.php_ast.specs.statement.Tree.{Sequence, empty, then_also, Name, Statement, Statements, and_statement, ElseIfs, and_elseif, ElseIfLists, and_elseif_list, Cases, and_case, Catches, and_catch}
-use Rattle.php_ast.specs.statement.Spelling.{commas, spell_name, sign_if, separator, separated, spell_head, spell_statement, spell_statements, spell_elseifs, spell_elseif_lists, spell_cases, spell_catches}
-use Rattle.php_ast.specs.declaration.Spelling.{joined, spell_names, spell_member}
-use Rattle.php_print.specs.declaration.Elements.{spell_rules}
-use Rattle.php_ast.specs.declared.declaration.Rule as rust_rule
-use Rattle.php_token.specs.declared.kind.Keyword.{Keyword}
-use Rattle.php_ast.specs.declaration.View.{rule_view, uses_view}
-use Rattle.php_ast.specs.statement.View.{optional, sequence, sequence_from, name_view, names_view, statements_from, list_view, elseifs_from, elseif_lists_from, cases_from, catches_from, if_view, if_lists_view, try_view}
-use Rattle.php_print.specs.statement.Elements.{spell_elseif, spell_elseif_list, spell_case, spell_braces, spell_catch, spell_else, spell_else_list, spell_finally}
-use Rattle.php_ast.specs.expression.View.{Note, note, view, piece_more, pieces_from, item_more, items_from, argument_more, arguments_from, values_from, step_more, steps_from, property_of, with_suffix, with_suffixes, with_link, with_links}
+use Rattle.php_ast.specs.statement.Spelling.{symbol_if}
+use Rattle.php_ast.specs.expression.View.{Note, piece_more, pieces_from, item_more, items_from, argument_more, arguments_from, values_from, step_more, steps_from, property_of, with_suffix, with_suffixes, with_link, with_links}
 use Rattle.php_print.specs.Print.{Prints}
 use Rattle.php_print.specs.expression.Elements.{spell_piece, spell_item, spell_argument, spell_property, spell_suffix, spell_link, spell_step}
 
@@ -44,10 +31,10 @@ abbrev pub some_item : Items Note → Bool
 some_item none = false
 some_item _ = true
 
--- elements with a sign before them, but for the first
+-- elements with a symbol before them, but for the first
 abbrev pub rest : {A : Type 0} → Symbol → (A → List Symbol → List Symbol) → Bool → List A → List Symbol → List Symbol
-rest sign each later [] w = w
-rest sign each later (x ∷ xs) w = sign_if later sign (each x (rest sign each true xs w))
+rest token each later [] w = w
+rest token each later (x ∷ xs) w = symbol_if later token (each x (rest token each true xs w))
 
 -- elements one after the other
 abbrev pub all : {A : Type 0} → (A → List Symbol → List Symbol) → List A → List Symbol → List Symbol
@@ -88,17 +75,17 @@ pub closed : {E : Type 0} (r : Result (Unit {0}) E) (s new : List Symbol) (behin
 closed r s new behind whole before h =
     on_ok_weaker {P = Prints (λ w. behind ∷ w) s new} {Q = (w : List Symbol) → new ++ w ≡ whole (behind ∷ w)} r (λ p w. p w ∙ before (behind ∷ w)) h
 
-pub step_rest : {A B : Type 0} (sign : Symbol) (each : B → List Symbol → List Symbol) (g : A → B) (xs : List A) (i : ℕ) (x : A) (later : Bool) (s between new : List Symbol) (whole : List Symbol → List Symbol)
-    → i < length xs → x ≡ get_or xs i x → ((w : List Symbol) → s ++ rest sign each later (map g (drop i xs)) w ≡ whole w)
-    → Prints (sign_if later sign) s between → Prints (each (g x)) between new
-    → (w : List Symbol) → new ++ rest sign each true (map g (drop (i + 1) xs)) w ≡ whole w
-step_rest sign each g xs i x later s between new whole within is before parted one w =
-    one (rest sign each true (map g (drop (i + 1) xs)) w) ∙ parted (each (g x) (rest sign each true (map g (drop (i + 1) xs)) w))
-    ∙ ap (λ u. s ++ u) (at_place (λ ys. rest sign each later (map g ys) w) xs i x within is) ∙ before w
+pub step_rest : {A B : Type 0} (token : Symbol) (each : B → List Symbol → List Symbol) (g : A → B) (xs : List A) (i : ℕ) (x : A) (later : Bool) (s between new : List Symbol) (whole : List Symbol → List Symbol)
+    → i < length xs → x ≡ get_or xs i x → ((w : List Symbol) → s ++ rest token each later (map g (drop i xs)) w ≡ whole w)
+    → Prints (symbol_if later token) s between → Prints (each (g x)) between new
+    → (w : List Symbol) → new ++ rest token each true (map g (drop (i + 1) xs)) w ≡ whole w
+step_rest token each g xs i x later s between new whole within is before parted one w =
+    one (rest token each true (map g (drop (i + 1) xs)) w) ∙ parted (each (g x) (rest token each true (map g (drop (i + 1) xs)) w))
+    ∙ ap (λ u. s ++ u) (at_place (λ ys. rest token each later (map g ys) w) xs i x within is) ∙ before w
 
-pub end_rest : {A B : Type 0} (sign : Symbol) (each : B → List Symbol → List Symbol) (g : A → B) (xs : List A) (i : ℕ) (later : Bool) (s : List Symbol) (whole : List Symbol → List Symbol)
-    → length xs ≤ i → ((w : List Symbol) → s ++ rest sign each later (map g (drop i xs)) w ≡ whole w) → (w : List Symbol) → s ++ w ≡ whole w
-end_rest sign each g xs i later s whole over before w = sym (ap (λ u. s ++ u) (at_drop_all (λ ys. rest sign each later (map g ys) w) xs i over)) ∙ before w
+pub end_rest : {A B : Type 0} (token : Symbol) (each : B → List Symbol → List Symbol) (g : A → B) (xs : List A) (i : ℕ) (later : Bool) (s : List Symbol) (whole : List Symbol → List Symbol)
+    → length xs ≤ i → ((w : List Symbol) → s ++ rest token each later (map g (drop i xs)) w ≡ whole w) → (w : List Symbol) → s ++ w ≡ whole w
+end_rest token each g xs i later s whole over before w = sym (ap (λ u. s ++ u) (at_drop_all (λ ys. rest token each later (map g ys) w) xs i over)) ∙ before w
 
 -- ---- items
 
@@ -109,7 +96,7 @@ some_more before (item.Reference e) = refl
 some_more before (item.Keyed k e) = refl
 some_more before (item.KeyedReference k e) = refl
 
-comma_by : (before : Items Note) (w : List Symbol) → comma before w ≡ sign_if (some_item before) (punct mark.Comma) w
+comma_by : (before : Items Note) (w : List Symbol) → comma before w ≡ symbol_if (some_item before) (punct mark.Comma) w
 comma_by none w = refl
 comma_by (and i l e) w = refl
 comma_by (skip i) w = refl
@@ -199,87 +186,3 @@ one_link e (link.ShortChoice b) w = refl
 pub links_spelled : (e : Tree Note) (xs : List (Link (Tree Note))) (w : List Symbol) → spell (with_links e xs) w ≡ spell e (all spell_link xs w)
 links_spelled e [] w = refl
 links_spelled e (x ∷ xs) w = links_spelled (with_link e x) xs w ∙ one_link e x (all spell_link xs w)
-
--- ---- sequences
-
-abbrev pub some_before : {A : Type 0} → Sequence A → Bool
-some_before empty = false
-some_before (then_also xs x) = true
-
-separated_by : {A : Type 0} (sign : Symbol) (before : Sequence A) (w : List Symbol) → separator sign before w ≡ sign_if (some_before before) sign w
-separated_by sign empty w = refl
-separated_by sign (then_also xs x) w = refl
-
-pub sequence_spelled : {A : Type 0} (sign : Symbol) (each : A → List Symbol → List Symbol) (before : Sequence A) (xs : List A) (w : List Symbol)
-    → separated sign each (sequence_from before xs) w ≡ separated sign each before (rest sign each (some_before before) xs w)
-sequence_spelled sign each before [] w = refl
-sequence_spelled sign each before (x ∷ xs) w =
-    sequence_spelled sign each (then_also before x) xs w ∙ ap (separated sign each before) (separated_by sign before (each x (rest sign each true xs w)))
-
-pub joined_spelled : {A : Type 0} (each : A → List Symbol → List Symbol) (before : Sequence A) (xs : List A) (w : List Symbol)
-    → joined each (sequence_from before xs) w ≡ joined each before (all each xs w)
-joined_spelled each before [] w = refl
-joined_spelled each before (x ∷ xs) w = joined_spelled each (then_also before x) xs w
-
--- ---- statements
-
-pub statements_spelled : (before : Statements Note) (xs : List (Statement Note)) (w : List Symbol)
-    → spell_statements (statements_from before xs) w ≡ spell_statements before (all spell_statement xs w)
-statements_spelled before [] w = refl
-statements_spelled before (x ∷ xs) w = statements_spelled (and_statement before x) xs w
-
-pub elseifs_spelled : (before : ElseIfs Note) (xs : List (ElseIf (Statement Note))) (w : List Symbol)
-    → spell_elseifs (elseifs_from before xs) w ≡ spell_elseifs before (all spell_elseif xs w)
-elseifs_spelled before [] w = refl
-elseifs_spelled before (x ∷ xs) w = elseifs_spelled (and_elseif before (view x.test) x.body) xs w
-
-pub elseif_lists_spelled : (before : ElseIfLists Note) (xs : List (ElseIf (List (Statement Note)))) (w : List Symbol)
-    → spell_elseif_lists (elseif_lists_from before xs) w ≡ spell_elseif_lists before (all spell_elseif_list xs w)
-elseif_lists_spelled before [] w = refl
-elseif_lists_spelled before (x ∷ xs) w = elseif_lists_spelled (and_elseif_list before (view x.test) (list_view x.body)) xs w
-
-pub cases_spelled : (before : Cases Note) (xs : List (Case (Statement Note))) (w : List Symbol)
-    → spell_cases (cases_from before xs) w ≡ spell_cases before (all spell_case xs w)
-cases_spelled before [] w = refl
-cases_spelled before (x ∷ xs) w = cases_spelled (and_case before (note x.spot) (optional view x.value) x.end (list_view x.body)) xs w
-
-pub catches_spelled : (before : Catches Note) (xs : List (Catch (Statement Note))) (w : List Symbol)
-    → spell_catches (catches_from before xs) w ≡ spell_catches before (all spell_catch xs w)
-catches_spelled before [] w = refl
-catches_spelled before (x ∷ xs) w = catches_spelled (and_catch before (names_view x.classes) (name_view x.variable) (list_view x.body)) xs w
-
--- ---- what may be absent
-
-pub if_spelled : (at : Note) (test : Tree Note) (body : Statement Note) (parts : ElseIfs Note) (last : Option (Statement Note)) (w : List Symbol)
-    → spell_statement (if_view at test body parts last) w ≡ spell_head word.If test (spell_statement body (spell_elseifs parts (spell_else last w)))
-if_spelled at test body parts None w = refl
-if_spelled at test body parts (Some s) w = refl
-
-pub if_lists_spelled : (at : Note) (test : Tree Note) (body : Statements Note) (parts : ElseIfLists Note) (last : Option (List (Statement Note))) (w : List Symbol)
-    → spell_statement (if_lists_view at test body parts last) w
-    ≡ spell_head word.If test (punct mark.Colon ∷ spell_statements body (spell_elseif_lists parts (spell_else_list last (keyword word.EndIf ∷ punct mark.Semicolon ∷ w))))
-if_lists_spelled at test body parts None w = refl
-if_lists_spelled at test body parts (Some s) w = refl
-
-pub try_spelled : (at : Note) (body : List (Statement Note)) (catches : Catches Note) (last : Option (List (Statement Note))) (w : List Symbol)
-    → spell_statement (try_view at (list_view body) catches last) w ≡ keyword word.Try ∷ spell_braces body (spell_catches catches (spell_finally last w))
-try_spelled at body catches None w = refl
-try_spelled at body catches (Some s) w = refl
-
--- ---- declarations
-
-names_more : (behind : Keyword) (before : Sequence (Name Note)) (x : Name Note) (xs : List (Name Note)) (w : List Symbol)
-    → spell_names behind (sequence_from (then_also before x) xs) w ≡ keyword behind ∷ commas spell_name (sequence_from (then_also before x) xs) w
-names_more behind before x [] w = refl
-names_more behind before x (y ∷ ys) w = names_more behind (then_also before x) y ys w
-
--- names behind a word, where there are some
-pub names_spelled : (behind : Keyword) (xs : List rust_name.Name) (w : List Symbol) → false ≡ (length xs == 0)
-    → spell_names behind (names_view xs) w ≡ keyword behind ∷ commas spell_name (names_view xs) w
-names_spelled behind [] w some = absurd (cc)
-names_spelled behind (x ∷ xs) w some = names_more behind empty (name_view x) (map name_view xs) w
-
-pub uses_spelled : (at : Note) (names : Sequence (Name Note)) (rules : Option (List rust_rule.Rule)) (w : List Symbol)
-    → spell_member (uses_view at names rules) w ≡ keyword word.Use ∷ commas spell_name names (spell_rules (optional (sequence rule_view) rules) w)
-uses_spelled at names None w = refl
-uses_spelled at names (Some rules) w = refl

@@ -1,4 +1,2 @@
 pub mod Print
 pub mod expression
-pub mod statement
-pub mod declaration

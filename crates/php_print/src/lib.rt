@@ -1,18 +1,16 @@
-// The tokens of a tree.
+// Printed tokens, and the tokens of an expression.
 #![tactic(auto)]
 
-mod declaration;
 mod expression;
-mod member;
+pub mod fixed;
 mod print;
 mod printed;
 mod printer;
-mod signs;
-mod simple;
-mod statement;
 mod text;
 mod words;
 
-pub use print::{print_expr, print_script, print_stmt};
+pub use fixed::Fixed;
+pub use print::print_expr;
 pub use printed::Printed;
+pub use printer::Printer;
 pub use text::lay_out;

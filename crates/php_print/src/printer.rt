@@ -1,16 +1,16 @@
 // Tokens while they are printed.
 
 ghost use Rattle.std.specs.Prelude.{◌≡◌, [], ◌∷◌, map, nat_lt, OnOk};
-ghost use Rattle.php_print.specs.Print.{Prints, printed_symbol, sign_symbol, sign_symbols};
+ghost use Rattle.php_print.specs.Print.{Prints, printed_view, fixed_view, fixed_views};
 ghost use Rattle.php_ast.specs.Symbol as symbol;
 ghost use Rattle.php_token.specs.declared.kind.Keyword.TheVariants as word;
 ghost use Rattle.php_token.specs.declared.kind.Punct.TheVariants as mark;
-ghost use Rattle.php_ast.specs.statement.Spelling.{sign_if};
+ghost use Rattle.php_ast.specs.statement.Spelling.{symbol_if};
 ghost use Rattle.php_ast.specs.expression.Spelling.{member_symbol};
 ghost use Rattle.php_ast.specs.expression.View.{member_view, word_view};
 
+use crate::fixed::{ARROW, DOUBLE_COLON, Fixed, STATIC};
 use crate::printed::Printed;
-use crate::signs::{ARROW, DOUBLE_COLON, STATIC, Sign};
 use php_ast::{Member, Name, Word};
 use php_base::NoMemory;
 use php_token::{Keyword, Punct};
@@ -18,30 +18,31 @@ use php_value::Text;
 use std::alloc::Global;
 use std::marker::Model;
 
-/// The tokens printed so far.
+/// The tokens printed so far. Its value is what they stand for, as symbols of the grammar.
 #[derive(Drop)]
-pub(crate) struct Printer {
+pub struct Printer {
     tokens: Vec<Printed>,
 }
 
 impl Model for Printer {
     ghost use Rattle.std.specs.Prelude.{List, map};
     ghost use Rattle.php_ast.specs.Symbol.{Symbol};
-    ghost use Rattle.php_print.specs.Print.{printed_symbol};
+    ghost use Rattle.php_print.specs.Print.{printed_view};
 
     ghost Value = { List Symbol };
 
-    ghost view = { λ p. map printed_symbol p.tokens.items };
+    ghost view = { λ p. map printed_view p.tokens.items };
 }
 
 fn int_token(value: &i64) -> Printed
-    ensures { printed_symbol result ≡ symbol.int value.now }
+    ensures { printed_view result ≡ symbol.int value.now }
 {
     Printed::Int(*value)
 }
 
 impl Printer {
-    pub(crate) fn new(alloc: Global) -> Printer
+    /// A printer that has no tokens.
+    pub fn new(alloc: Global) -> Printer
         ensures { result ≡ [] }
     {
         Printer {
@@ -49,134 +50,149 @@ impl Printer {
         }
     }
 
-    pub(crate) fn finish(self) -> Vec<Printed>
-        ensures { map printed_symbol result.items ≡ self }
+    /// The tokens printed, in their order.
+    pub fn finish(self) -> Vec<Printed>
+        ensures { map printed_view result.items ≡ self }
     {
         self.tokens
     }
 
     pub(crate) fn put(&mut self, token: Printed) -> Result<(), NoMemory>
-        ensures { OnOk result (Prints (λ w. printed_symbol token ∷ w) self.old self.new) }
+        ensures { OnOk result (Prints (λ w. printed_view token ∷ w) self.old self.new) }
     {
         self.tokens.push(token)?;
         Ok(())
     }
 
-    pub(crate) fn keyword(&mut self, word: Keyword) -> Result<(), NoMemory>
+    /// Puts a keyword. `NoMemory` comes only for want of memory, here and in the other methods; what was put before
+    /// stays.
+    pub fn put_keyword(&mut self, word: Keyword) -> Result<(), NoMemory>
         ensures { OnOk result (Prints (λ w. symbol.keyword word ∷ w) self.old self.new) }
     {
         self.put(Printed::Keyword(word))
     }
 
-    pub(crate) fn punct(&mut self, mark: Punct) -> Result<(), NoMemory>
+    pub(crate) fn put_punct(&mut self, mark: Punct) -> Result<(), NoMemory>
         ensures { OnOk result (Prints (λ w. symbol.punct mark ∷ w) self.old self.new) }
     {
         self.put(Printed::Punct(mark))
     }
 
-    pub(crate) fn punct_if(&mut self, present: bool, mark: Punct) -> Result<(), NoMemory>
-        ensures { OnOk result (Prints (sign_if present (symbol.punct mark)) self.old self.new) }
+    /// Puts a punctuator where it is present, and nothing else.
+    pub fn put_punct_if(&mut self, present: bool, mark: Punct) -> Result<(), NoMemory>
+        ensures { OnOk result (Prints (symbol_if present (symbol.punct mark)) self.old self.new) }
     {
-        if present { self.punct(mark) } else { Ok(()) }
+        if present {
+            self.put_punct(mark)
+        } else {
+            Ok(())
+        }
     }
 
-    pub(crate) fn sign(&mut self, sign: Sign) -> Result<(), NoMemory>
-        ensures { OnOk result (Prints (λ w. sign_symbol sign ∷ w) self.old self.new) }
+    /// Puts a fixed token.
+    pub fn put_fixed(&mut self, token: Fixed) -> Result<(), NoMemory>
+        ensures { OnOk result (Prints (λ w. fixed_view token ∷ w) self.old self.new) }
     {
-        self.put(sign.printed())
+        self.put(token.printed())
     }
 
-    pub(crate) fn signs(&mut self, signs: &[Sign]) -> Result<(), NoMemory>
-        ensures { OnOk result (Prints (sign_symbols signs.now) self.old self.new) }
+    /// Puts fixed tokens, one after the other.
+    pub fn put_all(&mut self, tokens: &[Fixed]) -> Result<(), NoMemory>
+        ensures { OnOk result (Prints (fixed_views tokens.now) self.old self.new) }
     {
-        for sign in signs {
-            self.put(sign.printed())?;
+        for token in tokens {
+            self.put(token.printed())?;
         }
         Ok(())
     }
 
-    pub(crate) fn name(&mut self, text: &Text) -> Result<(), NoMemory>
+    /// Puts a name that is no keyword.
+    pub fn put_name(&mut self, text: &Text) -> Result<(), NoMemory>
         ensures { OnOk result (Prints (λ w. symbol.name text.now ∷ w) self.old self.new) }
     {
         self.put(Printed::Name(text.share()?))
     }
 
-    pub(crate) fn variable(&mut self, text: &Text) -> Result<(), NoMemory>
+    /// Puts a variable. Its name has no `$`.
+    pub fn put_variable(&mut self, text: &Text) -> Result<(), NoMemory>
         ensures { OnOk result (Prints (λ w. symbol.variable text.now ∷ w) self.old self.new) }
     {
         self.put(Printed::Variable(text.share()?))
     }
 
-    pub(crate) fn int(&mut self, value: &i64) -> Result<(), NoMemory>
+    /// Puts an integer.
+    pub fn put_int(&mut self, value: &i64) -> Result<(), NoMemory>
         ensures { OnOk result (Prints (λ w. symbol.int value.now ∷ w) self.old self.new) }
     {
         self.put(int_token(value))
     }
 
-    pub(crate) fn string(&mut self, text: &Text) -> Result<(), NoMemory>
+    pub(crate) fn put_string(&mut self, text: &Text) -> Result<(), NoMemory>
         ensures { OnOk result (Prints (λ w. symbol.string text.now ∷ w) self.old self.new) }
     {
         self.put(Printed::Str(text.share()?))
     }
 
-    pub(crate) fn bytes(&mut self, text: &Text) -> Result<(), NoMemory>
+    pub(crate) fn put_bytes(&mut self, text: &Text) -> Result<(), NoMemory>
         ensures { OnOk result (Prints (λ w. symbol.piece text.now ∷ w) self.old self.new) }
     {
         self.put(Printed::Piece(text.share()?))
     }
 
-    pub(crate) fn inline(&mut self, text: &Text) -> Result<(), NoMemory>
+    /// Puts bytes outside the tags.
+    pub fn put_inline(&mut self, text: &Text) -> Result<(), NoMemory>
         ensures { OnOk result (Prints (λ w. symbol.inline text.now ∷ w) self.old self.new) }
     {
         self.put(Printed::Inline(text.share()?))
     }
 
-    pub(crate) fn word(&mut self, word: &Word) -> Result<(), NoMemory>
+    /// Puts a name, or the keyword that it is spelled as.
+    pub fn put_word(&mut self, word: &Word) -> Result<(), NoMemory>
         ensures { OnOk result (Prints (λ w. member_symbol (word_view word.now) ∷ w) self.old self.new) }
     {
         match word.keyword {
-            None => self.name(&word.text),
-            Some(keyword) => self.keyword(keyword),
+            None => self.put_name(&word.text),
+            Some(keyword) => self.put_keyword(keyword),
         }
     }
 
     // ---- names of members
 
     // `-> name`
-    pub(crate) fn property_word(&mut self, word: &Word) -> Result<(), NoMemory>
+    pub(crate) fn put_property_word(&mut self, word: &Word) -> Result<(), NoMemory>
         ensures { OnOk result (Prints (λ w. symbol.punct mark.Arrow ∷ member_symbol (word_view word.now)
             ∷ w) self.old self.new) }
     {
-        self.sign(ARROW)?;
-        self.word(word)
+        self.put_fixed(ARROW)?;
+        self.put_word(word)
     }
 
     // `-> $name`
-    pub(crate) fn property_variable(&mut self, name: &Name) -> Result<(), NoMemory>
+    pub(crate) fn put_property_variable(&mut self, name: &Name) -> Result<(), NoMemory>
         ensures { OnOk result (Prints (λ w. symbol.punct mark.Arrow ∷ symbol.variable name.now.text ∷ w)
             self.old self.new) }
     {
-        self.sign(ARROW)?;
-        self.variable(&name.text)
+        self.put_fixed(ARROW)?;
+        self.put_variable(&name.text)
     }
 
     // `:: name` and `:: $name`
-    pub(crate) fn member(&mut self, member: &Member) -> Result<(), NoMemory>
+    pub(crate) fn put_member(&mut self, member: &Member) -> Result<(), NoMemory>
         ensures { OnOk result (Prints (λ w. symbol.punct mark.DoubleColon ∷ member_symbol
             (member_view member.now) ∷ w) self.old self.new) }
     {
-        self.sign(DOUBLE_COLON)?;
+        self.put_fixed(DOUBLE_COLON)?;
         match member {
-            Member::Word(word) => self.word(word),
-            Member::Variable(name) => self.variable(&name.text),
+            Member::Word(word) => self.put_word(word),
+            Member::Variable(name) => self.put_variable(&name.text),
         }
     }
 
-    pub(crate) fn static_member(&mut self, member: &Member) -> Result<(), NoMemory>
+    pub(crate) fn put_static_member(&mut self, member: &Member) -> Result<(), NoMemory>
         ensures { OnOk result (Prints (λ w. symbol.keyword word.Static ∷ symbol.punct mark.DoubleColon
             ∷ member_symbol (member_view member.now) ∷ w) self.old self.new) }
     {
-        self.sign(STATIC)?;
-        self.member(member)
+        self.put_fixed(STATIC)?;
+        self.put_member(member)
     }
 }

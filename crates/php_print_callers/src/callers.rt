@@ -2,7 +2,7 @@
 ghost use Rattle.std.specs.Prelude.{◌≡◌, [], ◌∷◌, length, map, IfOk};
 ghost use Rattle.php_token.specs.declared.kind.Punct.TheVariants.{Semicolon};
 ghost use Rattle.php_ast.specs.Operators.{binary_symbol};
-ghost use Rattle.php_print.specs.Print.{printed_symbol};
+ghost use Rattle.php_print.specs.Print.{printed_view};
 ghost use Rattle.php_ast.specs.expression.Spelling.{spell};
 ghost use Rattle.php_ast.specs.Symbol.{inline, punct};
 ghost use Rattle.php_ast.specs.expression.Tree.{binary};
@@ -10,7 +10,8 @@ ghost use Rattle.php_ast.specs.expression.View.{view};
 
 use php_ast::{Binary, Expr, Script, ScriptItem, Spot, Stmt};
 use php_base::NoMemory;
-use php_print::{Printed, print_expr, print_script, print_stmt};
+use php_print::{Printed, print_expr};
+use php_print_script::{print_script, print_stmt};
 use php_value::Text;
 use sqlite_items::{Boxed, Items};
 use std::alloc::Global;
@@ -36,7 +37,7 @@ pub fn print_binary(
     left: Expr,
     right: Expr,
 ) -> Result<Vec<Printed>, NoMemory>
-    ensures { IfOk result (λ tokens. map printed_symbol tokens.items
+    ensures { IfOk result (λ tokens. map printed_view tokens.items
         ≡ spell (view left) (binary_symbol op ∷ spell (view right) [])) }
 {
     let e = joined(alloc, op, left, right)?;
@@ -45,7 +46,7 @@ pub fn print_binary(
 
 /// The tokens of an expression that is a statement.
 pub fn print_line(alloc: Global, spot: Spot, e: Expr) -> Result<Vec<Printed>, NoMemory>
-    ensures { IfOk result (λ tokens. map printed_symbol tokens.items
+    ensures { IfOk result (λ tokens. map printed_view tokens.items
         ≡ spell (view e) (punct Semicolon ∷ [])) }
 {
     print_stmt(alloc, &Stmt::Expression(spot, e))
@@ -53,7 +54,7 @@ pub fn print_line(alloc: Global, spot: Spot, e: Expr) -> Result<Vec<Printed>, No
 
 /// The tokens of a script that is bytes outside the tags alone.
 pub fn print_page(alloc: Global, spot: Spot, page: Text) -> Result<Vec<Printed>, NoMemory>
-    ensures { IfOk result (λ tokens. map printed_symbol tokens.items ≡ inline page ∷ []) }
+    ensures { IfOk result (λ tokens. map printed_view tokens.items ≡ inline page ∷ []) }
 {
     let item = ScriptItem::Statement(Stmt::Inline(spot, page));
     let script = Script {

@@ -4,7 +4,7 @@ use Rattle.std.specs.Prelude.{ℕ, ◌+◌, Option, Some, None, List, [], ◌∷
 use Rattle.php_ast.specs.expression.Tree as tree
 use Rattle.php_ast.specs.expression.Nesting.{nests}
 use Rattle.php_ast.specs.statement.Tree.{Sequence, empty, then_also, Name, Statements}
-use Rattle.php_ast.specs.statement.Nesting.{separated_nests, name_nests, value_nests, variable_nests, sign_nests, nests_statement, nests_statements}
+use Rattle.php_ast.specs.statement.Nesting.{separated_nests, name_nests, value_nests, variable_nests, nests_if, nests_statement, nests_statements}
 use Rattle.php_ast.specs.declaration.Tree.{Base, Type_of, Param, Signature, Function, Modifier, ClassWord, ClassConstant, Method, Rule, renames, prefers, Member, uses, uses_by, class_constants, method, properties, Class, Interface, Trait, Item, of_statement, of_function, of_class, of_interface, of_trait, Script}
 
 -- one after the other
@@ -18,7 +18,7 @@ abbrev pub base_nests : {S : Type 0} → Base S → ℕ → List ℕ → List �
 base_nests base d w = d ∷ w
 
 abbrev pub type_nests : {S : Type 0} → Type_of S → ℕ → List ℕ → List ℕ
-type_nests t d w = sign_nests t.is_nullable d (base_nests t.base d w)
+type_nests t d w = nests_if t.is_nullable d (base_nests t.base d w)
 
 abbrev pub declared_nests : {S : Type 0} → Option (Type_of S) → ℕ → List ℕ → List ℕ
 declared_nests None d w = w
@@ -26,7 +26,7 @@ declared_nests (Some t) d w = type_nests t d w
 
 abbrev pub param_nests : {S : Type 0} → Param S → ℕ → List ℕ → List ℕ
 param_nests p d w =
-    declared_nests p.declared d (sign_nests p.is_reference d (sign_nests p.is_variadic d (name_nests p.name d (value_nests p.default d w))))
+    declared_nests p.declared d (nests_if p.is_reference d (nests_if p.is_variadic d (name_nests p.name d (value_nests p.default d w))))
 
 abbrev pub result_nests : {S : Type 0} → Option (Type_of S) → ℕ → List ℕ → List ℕ
 result_nests None d w = w
@@ -40,7 +40,7 @@ block_nests body d w = d ∷ nests_statements body (1 + d) ((1 + d) ∷ w)
 
 abbrev pub function_nests : {S : Type 0} → Function S → ℕ → List ℕ → List ℕ
 function_nests f d w =
-    d ∷ sign_nests f.is_reference d (name_nests f.name d (signature_nests f.signature d (block_nests f.body d w)))
+    d ∷ nests_if f.is_reference d (name_nests f.name d (signature_nests f.signature d (block_nests f.body d w)))
 
 -- ---- members
 
@@ -75,7 +75,7 @@ method_body_nests (Some body) d w = block_nests body d w
 
 abbrev pub method_nests : {S : Type 0} → Method S → ℕ → List ℕ → List ℕ
 method_nests m d w =
-    joined_nests modifier_nests m.modifiers d (d ∷ sign_nests m.is_reference d
+    joined_nests modifier_nests m.modifiers d (d ∷ nests_if m.is_reference d
     (member_name_nests m.name d (signature_nests m.signature d (method_body_nests m.body d w))))
 
 abbrev pub member_nests : {S : Type 0} → Member S → ℕ → List ℕ → List ℕ

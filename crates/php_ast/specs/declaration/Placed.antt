@@ -6,7 +6,7 @@ use Rattle.php_ast.specs.expression.Tree as tree
 use Rattle.php_ast.specs.expression.View.{Note}
 use Rattle.php_ast.specs.expression.Placed.{Notes, size, noted, noted_member, no_notes, notes_of}
 use Rattle.php_ast.specs.statement.Tree.{Sequence, empty, then_also, Name, Statements}
-use Rattle.php_ast.specs.statement.Placed.{size_separated, noted_separated, size_name, noted_name, size_sign, size_value, noted_optional, size_variable, noted_variable, size_statement, size_statements, noted_statement, noted_statements}
+use Rattle.php_ast.specs.statement.Placed.{size_separated, noted_separated, size_name, noted_name, size_if, size_value, noted_optional, size_variable, noted_variable, size_statement, size_statements, noted_statement, noted_statements}
 use Rattle.php_ast.specs.declaration.Tree.{Base, of_name, of_array, of_callable, Type_of, Param, Signature, Function, Modifier, ClassWord, ClassConstant, Method, Rule, renames, prefers, Member, uses, uses_by, class_constants, method, properties, Class, Interface, Trait, Item, of_statement, of_function, of_class, of_interface, of_trait, Script}
 
 -- ---- one after the other
@@ -27,10 +27,10 @@ noted_base f at of_array = of_array
 noted_base f at of_callable = of_callable
 
 abbrev pub size_type : {S : Type 0} → Type_of S → ℕ
-size_type t = size_sign t.is_nullable + 1
+size_type t = size_if t.is_nullable + 1
 
 abbrev pub noted_type : {S T : Type 0} → Notes T → ℕ → Type_of S → Type_of T
-noted_type f at t = record { is_nullable = t.is_nullable; base = noted_base f (at + size_sign t.is_nullable) t.base }
+noted_type f at t = record { is_nullable = t.is_nullable; base = noted_base f (at + size_if t.is_nullable) t.base }
 
 abbrev pub size_declared : {S : Type 0} → Option (Type_of S) → ℕ
 size_declared None = 0
@@ -42,7 +42,7 @@ noted_declared f at (Some t) = Some (noted_type f at t)
 
 -- the tokens before the name of a parameter
 abbrev pub size_marks : {S : Type 0} → Param S → ℕ
-size_marks p = size_declared p.declared + size_sign p.is_reference + size_sign p.is_variadic
+size_marks p = size_declared p.declared + size_if p.is_reference + size_if p.is_variadic
 
 abbrev pub size_param : {S : Type 0} → Param S → ℕ
 size_param p = size_marks p + 1 + size_value p.default
@@ -76,15 +76,15 @@ size_block body = size_statements body + 2
 
 -- `function`, `&` where it stands, and the name
 abbrev pub size_function : {S : Type 0} → Function S → ℕ
-size_function g = 1 + size_sign g.is_reference + 1 + size_signature g.signature + size_block g.body
+size_function g = 1 + size_if g.is_reference + 1 + size_signature g.signature + size_block g.body
 
 abbrev pub noted_function : {S T : Type 0} → Notes T → ℕ → Function S → Function T
 noted_function f at g = record {
   note = f.token at;
   is_reference = g.is_reference;
-  name = noted_name f (at + 1 + size_sign g.is_reference) g.name;
-  signature = noted_signature f (at + 1 + size_sign g.is_reference + 1) g.signature;
-  body = noted_statements f (at + 1 + size_sign g.is_reference + 1 + size_signature g.signature + 1) g.body;
+  name = noted_name f (at + 1 + size_if g.is_reference) g.name;
+  signature = noted_signature f (at + 1 + size_if g.is_reference + 1) g.signature;
+  body = noted_statements f (at + 1 + size_if g.is_reference + 1 + size_signature g.signature + 1) g.body;
 }
 
 -- ---- members
@@ -115,7 +115,7 @@ noted_method_body f at (Some body) = Some (noted_statements f (at + 1) body)
 
 abbrev pub size_method : {S : Type 0} → Method S → ℕ
 size_method m =
-    size_joined size_modifier m.modifiers + 1 + size_sign m.is_reference + 1 + size_signature m.signature + size_method_body m.body
+    size_joined size_modifier m.modifiers + 1 + size_if m.is_reference + 1 + size_signature m.signature + size_method_body m.body
 
 -- behind the modifiers
 abbrev pub noted_method : {S T : Type 0} → Notes T → ℕ → ℕ → Method S → Method T
@@ -123,9 +123,9 @@ noted_method f first at m = record {
   modifiers = noted_modifiers f first m.modifiers;
   note = f.token at;
   is_reference = m.is_reference;
-  name = noted_member f (at + 1 + size_sign m.is_reference) m.name;
-  signature = noted_signature f (at + 1 + size_sign m.is_reference + 1) m.signature;
-  body = noted_method_body f (at + 1 + size_sign m.is_reference + 1 + size_signature m.signature) m.body;
+  name = noted_member f (at + 1 + size_if m.is_reference) m.name;
+  signature = noted_signature f (at + 1 + size_if m.is_reference + 1) m.signature;
+  body = noted_method_body f (at + 1 + size_if m.is_reference + 1 + size_signature m.signature) m.body;
 }
 
 -- a part of one token, where it stands

@@ -13,7 +13,7 @@ use Rattle.php_ast.specs.Symbol.{Symbol, keyword, punct}
 use Rattle.php_ast.specs.expression.Tree as tree
 use Rattle.php_ast.specs.expression.Spelling.{spell, member_symbol}
 use Rattle.php_ast.specs.statement.Tree.{Sequence, empty, then_also, Name, Statements}
-use Rattle.php_ast.specs.statement.Spelling.{commas, spell_name, spell_dollar, spell_value, spell_variable, sign_if, spell_statement, spell_statements}
+use Rattle.php_ast.specs.statement.Spelling.{commas, spell_name, spell_dollar, spell_value, spell_variable, symbol_if, spell_statement, spell_statements}
 use Rattle.php_ast.specs.declaration.Tree.{Base, of_name, of_array, of_callable, Type_of, Param, Signature, Function, Modifier, ClassWord, ClassConstant, Rule, renames, prefers, Member, uses, uses_by, class_constants, method, properties, Item, of_statement, of_function, of_class, of_interface, of_trait, Script}
 
 -- one after the other
@@ -29,7 +29,7 @@ spell_base of_array w = keyword word.Array ∷ w
 spell_base of_callable w = keyword word.Callable ∷ w
 
 abbrev pub spell_type : {S : Type 0} → Type_of S → List Symbol → List Symbol
-spell_type t w = sign_if t.is_nullable (punct mark.Question) (spell_base t.base w)
+spell_type t w = symbol_if t.is_nullable (punct mark.Question) (spell_base t.base w)
 
 abbrev pub spell_declared : {S : Type 0} → Option (Type_of S) → List Symbol → List Symbol
 spell_declared None w = w
@@ -37,7 +37,7 @@ spell_declared (Some t) w = spell_type t w
 
 abbrev pub spell_param : {S : Type 0} → Param S → List Symbol → List Symbol
 spell_param p w =
-    spell_declared p.declared (sign_if p.is_reference (punct mark.Ampersand) (sign_if p.is_variadic (punct mark.Ellipsis)
+    spell_declared p.declared (symbol_if p.is_reference (punct mark.Ampersand) (symbol_if p.is_variadic (punct mark.Ellipsis)
     (spell_dollar p.name (spell_value p.default w))))
 
 abbrev pub spell_result : {S : Type 0} → Option (Type_of S) → List Symbol → List Symbol
@@ -52,7 +52,7 @@ spell_block body w = punct mark.LeftBrace ∷ spell_statements body (punct mark.
 
 abbrev pub spell_function : {S : Type 0} → Function S → List Symbol → List Symbol
 spell_function f w =
-    keyword word.Function ∷ sign_if f.is_reference (punct mark.Ampersand) (spell_name f.name (spell_signature f.signature (spell_block f.body w)))
+    keyword word.Function ∷ symbol_if f.is_reference (punct mark.Ampersand) (spell_name f.name (spell_signature f.signature (spell_block f.body w)))
 
 -- ---- members
 
@@ -108,7 +108,7 @@ spell_member (uses_by note names rules) w =
 spell_member (class_constants modifiers items) w =
     joined spell_modifier modifiers (keyword word.Const ∷ commas spell_class_constant items (punct mark.Semicolon ∷ w))
 spell_member (method m) w =
-    joined spell_modifier m.modifiers (keyword word.Function ∷ sign_if m.is_reference (punct mark.Ampersand)
+    joined spell_modifier m.modifiers (keyword word.Function ∷ symbol_if m.is_reference (punct mark.Ampersand)
     (spell_member_name m.name (spell_signature m.signature (spell_method_body m.body w))))
 spell_member (properties modifiers variables) w = joined spell_modifier modifiers (commas spell_variable variables (punct mark.Semicolon ∷ w))
 

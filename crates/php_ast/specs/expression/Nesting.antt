@@ -6,7 +6,7 @@
 use Rattle.std.specs.Prelude.{ℕ, ◌+◌, List, ◌∷◌}
 use Rattle.php_ast.specs.expression.Tree.{Enclosure, parentheses, Listing, array, Setting, by_value, by_reference}
 use Rattle.php_ast.specs.declared.operator.ArrayForm.TheVariants as form
-use Rattle.php_ast.specs.expression.Tree.{Tree, leaf, template, enclosed, listed, exit, exit_empty, static_member, append, index, selected, computed, call, new, new_with, prefix, counted, binary, instance, static_instance, choice, short_choice, assign, yield_nothing, yield_value, yield_pair}
+use Rattle.php_ast.specs.expression.Tree.{Tree, leaf, template, enclosed, listed, exit, exit_empty, static_member, append, index, selected, computed, call, new, new_with, prefix, count, binary, instance_of, instance_of_static, choice, short_choice, assign, yield_nothing, yield_value, yield_pair}
 use Rattle.php_ast.specs.expression.Tree.{Items, none, and, skip, Lead, plain, reference, spread, keyed, keyed_reference, Pieces, no_piece, bytes, value, Class, class_name, class_static, class_found, Steps, from, step_property, step_index}
 use Rattle.php_ast.specs.Power.{Grouping, to_right, binary_row}
 
@@ -50,10 +50,10 @@ abbrev mutual
   nests (new spot class) d w = d ∷ nests_class class d w
   nests (new_with spot class items) d w = d ∷ nests_class class d (d ∷ nests_items items (1 + d) ((1 + d) ∷ w))
   nests (prefix spot op e) d w = d ∷ nests e (1 + d) w
-  nests (counted e count) d w = nests e d (d ∷ w)
+  nests (count e way) d w = nests e d (d ∷ w)
   nests (binary op l r) d w = nests l d (d ∷ nests r (right_depth (binary_row op).grouping + d) w)
-  nests (instance l r) d w = nests l d (d ∷ nests r d w)
-  nests (static_instance l spot) d w = nests l d (d ∷ d ∷ w)
+  nests (instance_of l r) d w = nests l d (d ∷ nests r d w)
+  nests (instance_of_static l spot) d w = nests l d (d ∷ d ∷ w)
   nests (choice c a b) d w = nests c d (d ∷ nests a (1 + d) ((1 + d) ∷ nests b d w))
   nests (short_choice c b) d w = nests c d (d ∷ d ∷ nests b d w)
   nests (assign setting l r) d w = nests l d (setting_nests setting d (nests r (1 + d) w))

@@ -7,7 +7,7 @@ use Rattle.std.specs.Prelude.{◌≡◌, ℕ, ◌+◌, List, []}
 use Rattle.php_token.specs.Token.{Token, token_at}
 use Rattle.php_ast.specs.expression.Tree.{Enclosure, parentheses, Listing, array, Setting, by_value, by_reference, Member, named, reserved, held}
 use Rattle.php_ast.specs.declared.operator.ArrayForm.TheVariants as form
-use Rattle.php_ast.specs.expression.Tree.{Tree, leaf, template, enclosed, listed, exit, exit_empty, static_member, append, index, selected, computed, call, new, new_with, prefix, counted, binary, instance, static_instance, choice, short_choice, assign, yield_nothing, yield_value, yield_pair}
+use Rattle.php_ast.specs.expression.Tree.{Tree, leaf, template, enclosed, listed, exit, exit_empty, static_member, append, index, selected, computed, call, new, new_with, prefix, count, binary, instance_of, instance_of_static, choice, short_choice, assign, yield_nothing, yield_value, yield_pair}
 use Rattle.php_ast.specs.expression.Tree.{Items, none, and, skip, Lead, plain, reference, spread, keyed, keyed_reference, Pieces, no_piece, bytes, value, Class, class_name, class_static, class_found, Steps, from, step_property, step_index}
 use Rattle.php_ast.specs.expression.View.{Note}
 
@@ -46,10 +46,10 @@ abbrev mutual
   size (new spot class) = 1 + size_class class
   size (new_with spot class items) = 1 + size_class class + size_items items + 2
   size (prefix spot op e) = 1 + size e
-  size (counted e count) = size e + 1
+  size (count e way) = size e + 1
   size (binary op l r) = size l + size r + 1
-  size (instance l r) = size l + size r + 1
-  size (static_instance l spot) = size l + 2
+  size (instance_of l r) = size l + size r + 1
+  size (instance_of_static l spot) = size l + 2
   size (choice c a b) = size c + size a + size b + 2
   size (short_choice c b) = size c + size b + 2
   size (assign setting l r) = size l + setting_size setting + size r
@@ -116,10 +116,10 @@ abbrev mutual
   noted notes at (new_with spot class items) =
       new_with (notes.token at) (noted_class notes (at + 1) class) (noted_items notes (at + 1 + size_class class + 1) items)
   noted notes at (prefix spot op e) = prefix (notes.token at) op (noted notes (at + 1) e)
-  noted notes at (counted e count) = counted (noted notes at e) count
+  noted notes at (count e way) = count (noted notes at e) way
   noted notes at (binary op l r) = binary op (noted notes at l) (noted notes (at + size l + 1) r)
-  noted notes at (instance l r) = instance (noted notes at l) (noted notes (at + size l + 1) r)
-  noted notes at (static_instance l spot) = static_instance (noted notes at l) (notes.token (at + size l + 1))
+  noted notes at (instance_of l r) = instance_of (noted notes at l) (noted notes (at + size l + 1) r)
+  noted notes at (instance_of_static l spot) = instance_of_static (noted notes at l) (notes.token (at + size l + 1))
   noted notes at (choice c a b) =
       choice (noted notes at c) (noted notes (at + size c + 1) a) (noted notes (at + size c + 1 + size a + 1) b)
   noted notes at (short_choice c b) = short_choice (noted notes at c) (noted notes (at + size c + 2) b)

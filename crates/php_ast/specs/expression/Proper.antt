@@ -3,10 +3,10 @@
 use Rattle.std.specs.Prelude.{◌≡◌, ◌≤◌, ◌<◌, ℕ, suc, min, Bool, true, false}
 use Rattle.php_token.specs.declared.kind.Keyword.{Keyword}
 use Rattle.php_token.specs.declared.kind.Keyword.TheVariants as word
-use Rattle.php_ast.specs.expression.Tree.{Listing, array, isset, Member, named, reserved, held}
-use Rattle.php_ast.specs.expression.Tree.{Tree, leaf, template, enclosed, listed, exit, exit_empty, static_member, append, index, selected, computed, call, new, new_with, prefix, counted, binary, instance, static_instance, choice, short_choice, assign, yield_nothing, yield_value, yield_pair}
+use Rattle.php_ast.specs.expression.Tree.{Listing, array, is_set, Member, named, reserved, held}
+use Rattle.php_ast.specs.expression.Tree.{Tree, leaf, template, enclosed, listed, exit, exit_empty, static_member, append, index, selected, computed, call, new, new_with, prefix, count, binary, instance_of, instance_of_static, choice, short_choice, assign, yield_nothing, yield_value, yield_pair}
 use Rattle.php_ast.specs.expression.Tree.{Items, none, and, skip, Lead, plain, reference, spread, keyed, keyed_reference, Pieces, no_piece, bytes, value, Class, class_name, class_static, class_found, Steps, from, step_property, step_index}
-use Rattle.php_ast.specs.Power.{Grouping, to_left, to_right, ungrouped, Row, binary_row, choice_row, instance_row, assign_row, prefix_power, yield_power}
+use Rattle.php_ast.specs.Power.{Grouping, to_left, to_right, ungrouped, Row, binary_row, choice_row, instance_of_row, assign_row, prefix_power, yield_power}
 
 -- ---- numbers above all powers
 
@@ -18,6 +18,18 @@ free = 50
 abbrev pub top : ℕ
 top = 200
 
+-- behind `instanceof`, where only an operand may stand
+abbrev pub operand_level : ℕ
+operand_level = 90
+
+-- What `[`, `->` and `::` need of the operand before them, and what `(` needs. They stand in the order in which operands
+-- are open to them.
+abbrev pub select_strength : ℕ
+select_strength = 100
+
+abbrev pub call_strength : ℕ
+call_strength = 110
+
 -- How much a form without operators at its end is open to the right. Parentheses directly behind `exit` are
 -- its own and no arguments, a `new` takes no suffix, and the form with `++` or `--` behind it takes
 -- neither a suffix nor an assignment.
@@ -28,7 +40,11 @@ abbrev pub open_new : ℕ
 open_new = 80
 
 abbrev pub open_count : ℕ
-open_count = 50
+open_count = free
+
+-- Behind a `yield` alone no operator stands.
+abbrev pub open_yield : ℕ
+open_yield = 1
 
 -- ---- powers
 
@@ -53,12 +69,12 @@ edge row = edge_of row.grouping row.power
 -- the power of the outermost operator
 abbrev pub power : {S : Type 0} → Tree S → ℕ
 power (binary op l r) = (binary_row op).power
-power (instance l r) = instance_row.power
-power (static_instance l spot) = instance_row.power
+power (instance_of l r) = instance_of_row.power
+power (instance_of_static l spot) = instance_of_row.power
 power (choice c a b) = choice_row.power
 power (short_choice c b) = choice_row.power
 power (prefix spot op e) = free
-power (counted e count) = free
+power (count e way) = free
 power (assign setting l r) = free
 power (yield_nothing spot) = free
 power (yield_value spot v) = free
@@ -66,19 +82,18 @@ power (yield_pair spot k v) = free
 power _ = top
 
 -- What follows must have a power below this, so that it draws no operator out of the end of the tree.
--- Behind a `yield` alone no operator stands.
 abbrev pub ends : {S : Type 0} → Tree S → ℕ
 ends (prefix spot op e) = min (prefix_power op) (ends e)
 ends (binary op l r) = min (edge (binary_row op)) (ends r)
-ends (instance l r) = edge instance_row
-ends (static_instance l spot) = edge instance_row
+ends (instance_of l r) = edge instance_of_row
+ends (instance_of_static l spot) = edge instance_of_row
 ends (choice c a b) = min (edge choice_row) (ends b)
 ends (short_choice c b) = min (edge choice_row) (ends b)
 ends (assign setting l r) = min (edge assign_row) (ends r)
-ends (yield_nothing spot) = 1
+ends (yield_nothing spot) = open_yield
 ends (yield_value spot v) = min yield_power (ends v)
 ends (yield_pair spot k v) = min yield_power (ends v)
-ends (counted e count) = open_count
+ends (count e way) = open_count
 ends (new spot class) = open_new
 ends (new_with spot class items) = open_new
 ends (exit spot) = open_exit
@@ -178,7 +193,7 @@ is_none _ = false
 
 abbrev pub FitsListing : {S : Type 0} → Listing → Items S → Type 0
 FitsListing (array form) items = AreArrayItems items × (is_alone_missing items ≡ false)
-FitsListing isset items = AreValues items × (is_none items ≡ false)
+FitsListing is_set items = AreValues items × (is_none items ≡ false)
 
 -- ---- the rules of powers
 
@@ -210,10 +225,10 @@ abbrev mutual
   Proper (new spot class) = IsProperClass class
   Proper (new_with spot class items) = IsProperClass class × AreArguments items × AreProperItems items
   Proper (prefix spot op e) = (prefix_power op < power e) × Proper e
-  Proper (counted e count) = IsOperand e × Proper e
+  Proper (count e way) = IsOperand e × Proper e
   Proper (binary op l r) = FitsLeft (binary_row op) l × FitsRight (binary_row op) r × Proper l × Proper r
-  Proper (instance l r) = FitsLeft instance_row l × IsOperand r × (is_call r ≡ false) × Proper l × Proper r
-  Proper (static_instance l spot) = FitsLeft instance_row l × Proper l
+  Proper (instance_of l r) = FitsLeft instance_of_row l × IsOperand r × (is_call r ≡ false) × Proper l × Proper r
+  Proper (instance_of_static l spot) = FitsLeft instance_of_row l × Proper l
   Proper (choice c a b) =
       FitsLeft choice_row c × (ends_bare a ≡ false) × FitsRight choice_row b × Proper c × Proper a × Proper b
   Proper (short_choice c b) = FitsLeft choice_row c × FitsRight choice_row b × Proper c × Proper b

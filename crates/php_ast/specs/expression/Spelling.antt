@@ -6,8 +6,8 @@ use Rattle.php_ast.specs.declared.operator.ArrayForm.TheVariants as form
 use Rattle.php_ast.specs.Symbol as symbol
 use Rattle.php_ast.specs.Symbol.{Symbol, keyword, punct}
 use Rattle.php_ast.specs.Operators.{binary_symbol, prefix_symbol, count_symbol, assign_symbol, magic_symbol}
-use Rattle.php_ast.specs.expression.Tree.{Leaf, variable, int, string, name, magic, Enclosure, parentheses, emptiness, exiting, Listing, array, isset, Arrow, thin, colons, Setting, by_value, by_reference, Member, named, reserved, held}
-use Rattle.php_ast.specs.expression.Tree.{Tree, leaf, template, enclosed, listed, exit, exit_empty, static_member, append, index, selected, computed, call, new, new_with, prefix, counted, binary, instance, static_instance, choice, short_choice, assign, yield_nothing, yield_value, yield_pair}
+use Rattle.php_ast.specs.expression.Tree.{Leaf, variable, int, string, name, magic, Enclosure, parentheses, emptiness, exiting, Listing, array, is_set, Arrow, thin, colons, Setting, by_value, by_reference, Member, named, reserved, held}
+use Rattle.php_ast.specs.expression.Tree.{Tree, leaf, template, enclosed, listed, exit, exit_empty, static_member, append, index, selected, computed, call, new, new_with, prefix, count, binary, instance_of, instance_of_static, choice, short_choice, assign, yield_nothing, yield_value, yield_pair}
 use Rattle.php_ast.specs.expression.Tree.{Items, none, and, skip, Lead, plain, reference, spread, keyed, keyed_reference, Pieces, no_piece, bytes, value, Class, class_name, class_static, class_found, Steps, from, step_property, step_index}
 
 abbrev pub leaf_symbol : Leaf → Symbol
@@ -37,7 +37,7 @@ abbrev pub list_opening : Listing → List Symbol → List Symbol
 list_opening (array form.Brackets) w = punct mark.LeftBracket ∷ w
 list_opening (array form.Array) w = keyword word.Array ∷ punct mark.LeftParen ∷ w
 list_opening (array form.List) w = keyword word.List ∷ punct mark.LeftParen ∷ w
-list_opening isset w = keyword word.IsSet ∷ punct mark.LeftParen ∷ w
+list_opening is_set w = keyword word.IsSet ∷ punct mark.LeftParen ∷ w
 
 abbrev pub list_closing : Listing → Symbol
 list_closing (array form.Brackets) = punct mark.RightBracket
@@ -71,10 +71,10 @@ abbrev mutual
   spell (new_with spot class items) w =
       keyword word.New ∷ spell_class class (punct mark.LeftParen ∷ spell_items items (punct mark.RightParen ∷ w))
   spell (prefix spot op e) w = prefix_symbol op ∷ spell e w
-  spell (counted e count) w = spell e (count_symbol count ∷ w)
+  spell (count e way) w = spell e (count_symbol way ∷ w)
   spell (binary op l r) w = spell l (binary_symbol op ∷ spell r w)
-  spell (instance l r) w = spell l (keyword word.InstanceOf ∷ spell r w)
-  spell (static_instance l spot) w = spell l (keyword word.InstanceOf ∷ keyword word.Static ∷ w)
+  spell (instance_of l r) w = spell l (keyword word.InstanceOf ∷ spell r w)
+  spell (instance_of_static l spot) w = spell l (keyword word.InstanceOf ∷ keyword word.Static ∷ w)
   spell (choice c a b) w = spell c (punct mark.Question ∷ spell a (punct mark.Colon ∷ spell b w))
   spell (short_choice c b) w = spell c (punct mark.Question ∷ punct mark.Colon ∷ spell b w)
   spell (assign setting l r) w = spell l (setting_symbols setting (spell r w))

@@ -32,16 +32,16 @@ pub data Enclosure : Type 0 where
 -- what encloses a list of items that stands alone
 pub data Listing : Type 0 where
   array : ArrayForm → Listing
-  isset : Listing
+  is_set : Listing
 
--- the sign between an operand and the name of a member
+-- the token between an operand and the name of a member
 pub data Arrow : Type 0 where
   -- `->`
   thin : Arrow
   -- `::`
   colons : Arrow
 
--- the sign of an assignment
+-- the tokens of an assignment
 pub data Setting : Type 0 where
   by_value : Assign → Setting
   -- `= &`
@@ -76,11 +76,11 @@ mutual
     new : S → Class S → Tree S
     new_with : S → Class S → Items S → Tree S
     prefix : S → Prefix → Tree S → Tree S
-    counted : Tree S → Count → Tree S
+    count : Tree S → Count → Tree S
     binary : Binary → Tree S → Tree S → Tree S
-    instance : Tree S → Tree S → Tree S
+    instance_of : Tree S → Tree S → Tree S
     -- `e instanceof static`
-    static_instance : Tree S → S → Tree S
+    instance_of_static : Tree S → S → Tree S
     -- `c ? a : b`, and `c ?: b`
     choice : Tree S → Tree S → Tree S → Tree S
     short_choice : Tree S → Tree S → Tree S

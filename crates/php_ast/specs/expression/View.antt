@@ -23,8 +23,8 @@ use Rattle.php_ast.specs.declared.expression.ClassStep.{ClassStep}
 use Rattle.php_ast.specs.declared.expression.ClassStep.TheVariants as class_step
 use Rattle.php_ast.specs.declared.expression.Link.{Link}
 use Rattle.php_ast.specs.declared.expression.Link.TheVariants as link
-use Rattle.php_ast.specs.expression.Tree.{variable, int, string, name, magic, parentheses, emptiness, exiting, array, isset, thin, colons, by_value, by_reference, Member, named, reserved, held}
-use Rattle.php_ast.specs.expression.Tree.{Tree, leaf, template, enclosed, listed, exit, exit_empty, static_member, append, index, selected, computed, call, new, new_with, prefix, counted, binary, instance, static_instance, choice, short_choice, assign, yield_nothing, yield_value, yield_pair}
+use Rattle.php_ast.specs.expression.Tree.{variable, int, string, name, magic, parentheses, emptiness, exiting, array, is_set, thin, colons, by_value, by_reference, Member, named, reserved, held}
+use Rattle.php_ast.specs.expression.Tree.{Tree, leaf, template, enclosed, listed, exit, exit_empty, static_member, append, index, selected, computed, call, new, new_with, prefix, count, binary, instance_of, instance_of_static, choice, short_choice, assign, yield_nothing, yield_value, yield_pair}
 use Rattle.php_ast.specs.expression.Tree.{Items, none, and, skip, plain, reference, spread, keyed, keyed_reference, Pieces, no_piece, bytes, value, Class, class_name, class_static, class_found, Steps, from, step_property, step_index}
 
 -- What a tree notes of a token: its place among the tokens, from 0, its line, from 1, and of a keyword
@@ -34,11 +34,11 @@ pub record Note : Type 0 where
   pub line : ℕ
   pub text : List ℕ
 
-abbrev pub note : Spot → Note
-note spot = record { place = spot.place; line = spot.line; text = [] }
+abbrev pub spot_view : Spot → Note
+spot_view spot = record { place = spot.place; line = spot.line; text = [] }
 
 abbrev pub word_of : Option Keyword → Word → Member Note
-word_of None w = named (note w.spot) w.text
+word_of None w = named (spot_view w.spot) w.text
 word_of (Some keyword) w = reserved (record { place = w.spot.place; line = w.spot.line; text = w.text }) keyword
 
 abbrev pub word_view : Word → Member Note
@@ -88,19 +88,19 @@ steps_from before [] = before
 steps_from before (x ∷ xs) = steps_from (step_more before x) xs
 
 abbrev pub class_view : behind_new.Class (Tree Note) → Class Note
-class_view (class.Name n) = class_name (note n.spot) n.text
-class_view (class.Static spot) = class_static (note spot)
-class_view (class.Variable n steps) = class_found (steps_from (from (note n.spot) n.text) steps)
+class_view (class.Name n) = class_name (spot_view n.spot) n.text
+class_view (class.Static spot) = class_static (spot_view spot)
+class_view (class.Variable n steps) = class_found (steps_from (from (spot_view n.spot) n.text) steps)
 
 -- ---- suffixes and runs
 
 abbrev pub member_view : behind_colons.Member → Member Note
 member_view (member.Word w) = word_view w
-member_view (member.Variable n) = held (note n.spot) n.text
+member_view (member.Variable n) = held (spot_view n.spot) n.text
 
 abbrev pub property_of : Tree Note → behind_arrow.Named (Tree Note) → Tree Note
 property_of e (arrow.Word w) = selected e thin (word_view w)
-property_of e (arrow.Variable n) = selected e thin (held (note n.spot) n.text)
+property_of e (arrow.Variable n) = selected e thin (held (spot_view n.spot) n.text)
 property_of e (arrow.Computed key) = computed e key
 
 abbrev pub with_suffix : Tree Note → Suffix (Tree Note) → Tree Note
@@ -127,34 +127,34 @@ with_links e (x ∷ xs) = with_links (with_link e x) xs
 
 -- one node, whose parts are trees already
 abbrev pub view_step : Expr-F (Tree Note) → Tree Note
-view_step (Expr-F.Variable n) = leaf (note n.spot) (variable n.text)
-view_step (Expr-F.Int spot n) = leaf (note spot) (int n)
-view_step (Expr-F.Str spot text) = leaf (note spot) (string text)
-view_step (Expr-F.Name n) = leaf (note n.spot) (name n.text)
-view_step (Expr-F.StaticMember spot m) = static_member (note spot) (member_view m)
-view_step (Expr-F.Template spot pieces) = template (note spot) (pieces_from no_piece pieces)
-view_step (Expr-F.Group spot e) = enclosed (note spot) parentheses e
-view_step (Expr-F.Array spot form items) = listed (note spot) (array form) (items_from none items)
-view_step (Expr-F.IsSet spot es) = listed (note spot) isset (values_from none es)
-view_step (Expr-F.Empty spot e) = enclosed (note spot) emptiness e
-view_step (Expr-F.Exit spot) = exit (note spot)
-view_step (Expr-F.ExitEmpty spot) = exit_empty (note spot)
-view_step (Expr-F.ExitWith spot e) = enclosed (note spot) exiting e
-view_step (Expr-F.Magic spot constant) = leaf (note spot) (magic constant)
+view_step (Expr-F.Variable n) = leaf (spot_view n.spot) (variable n.text)
+view_step (Expr-F.Int spot n) = leaf (spot_view spot) (int n)
+view_step (Expr-F.Str spot text) = leaf (spot_view spot) (string text)
+view_step (Expr-F.Name n) = leaf (spot_view n.spot) (name n.text)
+view_step (Expr-F.StaticMember spot m) = static_member (spot_view spot) (member_view m)
+view_step (Expr-F.Template spot pieces) = template (spot_view spot) (pieces_from no_piece pieces)
+view_step (Expr-F.Group spot e) = enclosed (spot_view spot) parentheses e
+view_step (Expr-F.Array spot form items) = listed (spot_view spot) (array form) (items_from none items)
+view_step (Expr-F.IsSet spot es) = listed (spot_view spot) is_set (values_from none es)
+view_step (Expr-F.Empty spot e) = enclosed (spot_view spot) emptiness e
+view_step (Expr-F.Exit spot) = exit (spot_view spot)
+view_step (Expr-F.ExitEmpty spot) = exit_empty (spot_view spot)
+view_step (Expr-F.ExitWith spot e) = enclosed (spot_view spot) exiting e
+view_step (Expr-F.Magic spot constant) = leaf (spot_view spot) (magic constant)
 view_step (Expr-F.Chain e suffixes) = with_suffixes e suffixes
-view_step (Expr-F.New spot c) = new (note spot) (class_view c)
-view_step (Expr-F.NewWith spot c arguments) = new_with (note spot) (class_view c) (arguments_from none arguments)
-view_step (Expr-F.Prefix spot op e) = prefix (note spot) op e
-view_step (Expr-F.Counted e count) = counted e count
+view_step (Expr-F.New spot c) = new (spot_view spot) (class_view c)
+view_step (Expr-F.NewWith spot c arguments) = new_with (spot_view spot) (class_view c) (arguments_from none arguments)
+view_step (Expr-F.Prefix spot op e) = prefix (spot_view spot) op e
+view_step (Expr-F.Count e way) = count e way
 view_step (Expr-F.Run e links) = with_links e links
 view_step (Expr-F.Binary op l r) = binary op l r
-view_step (Expr-F.InstanceOf l r) = instance l r
-view_step (Expr-F.InstanceOfStatic l spot) = static_instance l (note spot)
+view_step (Expr-F.InstanceOf l r) = instance_of l r
+view_step (Expr-F.InstanceOfStatic l spot) = instance_of_static l (spot_view spot)
 view_step (Expr-F.Assign op l r) = assign (by_value op) l r
 view_step (Expr-F.AssignReference l r) = assign by_reference l r
-view_step (Expr-F.YieldNothing spot) = yield_nothing (note spot)
-view_step (Expr-F.Yield spot v) = yield_value (note spot) v
-view_step (Expr-F.YieldPair spot k v) = yield_pair (note spot) k v
+view_step (Expr-F.YieldNothing spot) = yield_nothing (spot_view spot)
+view_step (Expr-F.Yield spot v) = yield_value (spot_view spot) v
+view_step (Expr-F.YieldPair spot k v) = yield_pair (spot_view spot) k v
 
 abbrev pub view : Expr → Tree Note
 view = fold-Expr (Tree Note) view_step

@@ -18,7 +18,7 @@ abbrev pub separator_nests : {A : Type 0} → Sequence A → ℕ → List ℕ �
 separator_nests empty d w = w
 separator_nests (then_also xs x) d w = d ∷ w
 
--- elements with a sign between each two
+-- elements with a symbol between each two
 abbrev pub separated_nests : {A : Type 0} → (A → ℕ → List ℕ → List ℕ) → Sequence A → ℕ → List ℕ → List ℕ
 separated_nests each empty d w = w
 separated_nests each (then_also xs x) d w = separated_nests each xs d (separator_nests xs d (each x d w))
@@ -40,12 +40,12 @@ abbrev pub optional_nests : {S : Type 0} → Option (Tree S) → ℕ → List �
 optional_nests None d w = w
 optional_nests (Some e) d w = nests e d w
 
-abbrev pub sign_nests : Bool → ℕ → List ℕ → List ℕ
-sign_nests true d w = d ∷ w
-sign_nests false d w = w
+abbrev pub nests_if : Bool → ℕ → List ℕ → List ℕ
+nests_if true d w = d ∷ w
+nests_if false d w = w
 
 abbrev pub target_nests : {S : Type 0} → Target S → ℕ → List ℕ → List ℕ
-target_nests t d w = sign_nests t.is_reference d (nests t.place d w)
+target_nests t d w = nests_if t.is_reference d (nests t.place d w)
 
 abbrev pub key_nests : {S : Type 0} → Option (Target S) → ℕ → List ℕ → List ℕ
 key_nests None d w = w

@@ -57,15 +57,15 @@ size_constant x = 2 + size x.value
 abbrev pub noted_constant : {S T : Type 0} → Notes T → ℕ → Constant S → Constant T
 noted_constant notes at x = record { name = noted_name notes at x.name; value = noted notes (at + 2) x.value }
 
-abbrev pub size_sign : Bool → ℕ
-size_sign true = 1
-size_sign false = 0
+abbrev pub size_if : Bool → ℕ
+size_if true = 1
+size_if false = 0
 
 abbrev pub size_target : {S : Type 0} → Target S → ℕ
-size_target t = size_sign t.is_reference + size t.place
+size_target t = size_if t.is_reference + size t.place
 
 abbrev pub noted_target : {S T : Type 0} → Notes T → ℕ → Target S → Target T
-noted_target notes at t = record { is_reference = t.is_reference; place = noted notes (at + size_sign t.is_reference) t.place }
+noted_target notes at t = record { is_reference = t.is_reference; place = noted notes (at + size_if t.is_reference) t.place }
 
 -- a key with its `=>`
 abbrev pub size_key : {S : Type 0} → Option (Target S) → ℕ

@@ -18,13 +18,13 @@ use Rattle.php_ast.specs.statement.Tree.{Statements, no_statement, and_statement
 -- ---- sequences
 
 abbrev pub separator : {A : Type 0} → Symbol → Sequence A → List Symbol → List Symbol
-separator sign empty w = w
-separator sign (then_also xs x) w = sign ∷ w
+separator between empty w = w
+separator between (then_also xs x) w = between ∷ w
 
--- the elements, with a sign between each two
+-- the elements, with a symbol between each two
 abbrev pub separated : {A : Type 0} → Symbol → (A → List Symbol → List Symbol) → Sequence A → List Symbol → List Symbol
-separated sign each empty w = w
-separated sign each (then_also xs x) w = separated sign each xs (separator sign xs (each x w))
+separated between each empty w = w
+separated between each (then_also xs x) w = separated between each xs (separator between xs (each x w))
 
 abbrev pub commas : {A : Type 0} → (A → List Symbol → List Symbol) → Sequence A → List Symbol → List Symbol
 commas each xs w = separated (punct mark.Comma) each xs w
@@ -52,9 +52,9 @@ abbrev pub spell_optional : {S : Type 0} → Option (Tree S) → List Symbol →
 spell_optional None w = w
 spell_optional (Some e) w = spell e w
 
-abbrev pub sign_if : Bool → Symbol → List Symbol → List Symbol
-sign_if true sign w = sign ∷ w
-sign_if false sign w = w
+abbrev pub symbol_if : Bool → Symbol → List Symbol → List Symbol
+symbol_if true between w = between ∷ w
+symbol_if false between w = w
 
 abbrev pub jump_word : Jump → Keyword
 jump_word returning = word.Return
@@ -62,7 +62,7 @@ jump_word breaking = word.Break
 jump_word continuing = word.Continue
 
 abbrev pub spell_target : {S : Type 0} → Target S → List Symbol → List Symbol
-spell_target t w = sign_if t.is_reference (punct mark.Ampersand) (spell t.place w)
+spell_target t w = symbol_if t.is_reference (punct mark.Ampersand) (spell t.place w)
 
 abbrev pub spell_key : {S : Type 0} → Option (Target S) → List Symbol → List Symbol
 spell_key None w = w

@@ -13,7 +13,7 @@ use Rattle.php_ast.specs.declared.statement.Target as rust_target
 use Rattle.php_ast.specs.declared.statement.Case.{Case}
 use Rattle.php_ast.specs.declared.statement.Catch.{Catch}
 use Rattle.php_ast.specs.expression.Tree.{Tree, Items, none}
-use Rattle.php_ast.specs.expression.View.{Note, note, values_from, view}
+use Rattle.php_ast.specs.expression.View.{Note, spot_view, values_from, view}
 use Rattle.php_ast.specs.statement.Tree.{Sequence, empty, then_also, Name, Variable, Constant, Target, returning, breaking, continuing}
 use Rattle.php_ast.specs.statement.Tree.{Statement, block, blank, inline, expression, echo, globals, statics, unset, constants, jump, throw, if_only, if_else, if_lists, if_else_lists, while, do_while, for, foreach, switch, try_catch, try_finally, declares}
 use Rattle.php_ast.specs.statement.Tree.{Statements, no_statement, and_statement, ElseIfs, no_elseif, and_elseif, ElseIfLists, no_elseif_list, and_elseif_list, Body, single, list_behind_colon, Cases, no_case, and_case, Catches, no_catch, and_catch}
@@ -32,7 +32,7 @@ optional f None = None
 optional f (Some x) = Some (f x)
 
 abbrev pub name_view : rust_name.Name → Name Note
-name_view n = record { note = note n.spot; text = n.text }
+name_view n = record { note = spot_view n.spot; text = n.text }
 
 abbrev pub names_view : List rust_name.Name → Sequence (Name Note)
 names_view = sequence name_view
@@ -72,7 +72,7 @@ body_view (body_form.Colon ss) = list_behind_colon (list_view ss)
 
 abbrev pub cases_from : Cases Note → List (Case (Statement Note)) → Cases Note
 cases_from before [] = before
-cases_from before (c ∷ cs) = cases_from (and_case before (note c.spot) (optional view c.value) c.end (list_view c.body)) cs
+cases_from before (c ∷ cs) = cases_from (and_case before (spot_view c.spot) (optional view c.value) c.end (list_view c.body)) cs
 
 abbrev pub catches_from : Catches Note → List (Catch (Statement Note)) → Catches Note
 catches_from before [] = before
@@ -92,31 +92,31 @@ try_view at body catches (Some last) = try_finally at body catches (list_view la
 
 -- one node, whose parts are trees already
 abbrev pub statement_step : Stmt-F (Statement Note) → Statement Note
-statement_step (Stmt-F.Block spot ss) = block (note spot) (list_view ss)
-statement_step (Stmt-F.Empty spot) = blank (note spot)
-statement_step (Stmt-F.Inline spot text) = inline (note spot) text
-statement_step (Stmt-F.Expression spot e) = expression (note spot) (view e)
-statement_step (Stmt-F.Echo spot es) = echo (note spot) (values_view es)
-statement_step (Stmt-F.Global spot names) = globals (note spot) (names_view names)
-statement_step (Stmt-F.Static spot items) = statics (note spot) (sequence variable_view items)
-statement_step (Stmt-F.Unset spot es) = unset (note spot) (values_view es)
-statement_step (Stmt-F.Const spot items) = constants (note spot) (sequence constant_view items)
-statement_step (Stmt-F.Return spot e) = jump (note spot) returning (optional view e)
-statement_step (Stmt-F.Throw spot e) = throw (note spot) (view e)
-statement_step (Stmt-F.Break spot e) = jump (note spot) breaking (optional view e)
-statement_step (Stmt-F.Continue spot e) = jump (note spot) continuing (optional view e)
-statement_step (Stmt-F.If spot test body parts last) = if_view (note spot) (view test) body (elseifs_from no_elseif parts) last
+statement_step (Stmt-F.Block spot ss) = block (spot_view spot) (list_view ss)
+statement_step (Stmt-F.Empty spot) = blank (spot_view spot)
+statement_step (Stmt-F.Inline spot text) = inline (spot_view spot) text
+statement_step (Stmt-F.Expression spot e) = expression (spot_view spot) (view e)
+statement_step (Stmt-F.Echo spot es) = echo (spot_view spot) (values_view es)
+statement_step (Stmt-F.Global spot names) = globals (spot_view spot) (names_view names)
+statement_step (Stmt-F.Static spot items) = statics (spot_view spot) (sequence variable_view items)
+statement_step (Stmt-F.Unset spot es) = unset (spot_view spot) (values_view es)
+statement_step (Stmt-F.Const spot items) = constants (spot_view spot) (sequence constant_view items)
+statement_step (Stmt-F.Return spot e) = jump (spot_view spot) returning (optional view e)
+statement_step (Stmt-F.Throw spot e) = throw (spot_view spot) (view e)
+statement_step (Stmt-F.Break spot e) = jump (spot_view spot) breaking (optional view e)
+statement_step (Stmt-F.Continue spot e) = jump (spot_view spot) continuing (optional view e)
+statement_step (Stmt-F.If spot test body parts last) = if_view (spot_view spot) (view test) body (elseifs_from no_elseif parts) last
 statement_step (Stmt-F.IfColon spot test body parts last) =
-    if_lists_view (note spot) (view test) (list_view body) (elseif_lists_from no_elseif_list parts) last
-statement_step (Stmt-F.While spot test body) = while (note spot) (view test) (body_view body)
-statement_step (Stmt-F.DoWhile spot body test) = do_while (note spot) body (view test)
+    if_lists_view (spot_view spot) (view test) (list_view body) (elseif_lists_from no_elseif_list parts) last
+statement_step (Stmt-F.While spot test body) = while (spot_view spot) (view test) (body_view body)
+statement_step (Stmt-F.DoWhile spot body test) = do_while (spot_view spot) body (view test)
 statement_step (Stmt-F.For spot head body) =
-    for (note spot) (values_view head.starts) (values_view head.tests) (values_view head.steps) (body_view body)
+    for (spot_view spot) (values_view head.starts) (values_view head.tests) (values_view head.steps) (body_view body)
 statement_step (Stmt-F.Foreach spot head body) =
-    foreach (note spot) (view head.walked) (optional target_view head.key) (target_view head.value) (body_view body)
-statement_step (Stmt-F.Switch spot e form cases) = switch (note spot) (view e) form (cases_from no_case cases)
-statement_step (Stmt-F.Try spot body catches last) = try_view (note spot) (list_view body) (catches_from no_catch catches) last
-statement_step (Stmt-F.Declare spot n value) = declares (note spot) (name_view n) value
+    foreach (spot_view spot) (view head.walked) (optional target_view head.key) (target_view head.value) (body_view body)
+statement_step (Stmt-F.Switch spot e form cases) = switch (spot_view spot) (view e) form (cases_from no_case cases)
+statement_step (Stmt-F.Try spot body catches last) = try_view (spot_view spot) (list_view body) (catches_from no_catch catches) last
+statement_step (Stmt-F.Declare spot n value) = declares (spot_view spot) (name_view n) value
 
 abbrev pub statement_view : Stmt → Statement Note
 statement_view = fold-Stmt (Statement Note) statement_step

@@ -4,15 +4,15 @@ use Rattle.php_token.specs.declared.kind.Punct.{Punct}
 use Rattle.php_token.specs.declared.kind.Punct.TheVariants as mark
 use Rattle.php_ast.specs.Symbol.{Symbol, punct}
 use Rattle.php_grammar.specs.expression.Machine.{Nothing, pick}
-use Rattle.php_grammar.specs.expression.Sign.{is_ampersand}
+use Rattle.php_grammar.specs.expression.Role.{is_ampersand}
 use Rattle.php_grammar.specs.Run.{if_some, ReadingOf, reading, or_halted, run_of}
 use Rattle.php_ast.specs.statement.Tree.{Statement, Statements, no_statement, and_statement}
-use Rattle.php_ast.specs.statement.Spelling.{sign_if, spell_statement, spell_statements}
+use Rattle.php_ast.specs.statement.Spelling.{symbol_if, spell_statement, spell_statements}
 use Rattle.php_ast.specs.statement.Proper.{AreProper}
 use Rattle.php_ast.specs.declaration.Tree.{Type_of, Signature}
 use Rattle.php_ast.specs.declaration.Spelling.{spell_signature, spell_block, spell_method_body}
 use Rattle.php_ast.specs.declaration.Proper.{IsProperSignature, IsProperMethodBody}
-use Rattle.php_grammar.specs.statement.Sign.{is_right_brace}
+use Rattle.php_grammar.specs.statement.Role.{is_right_brace}
 use Rattle.php_grammar.specs.statement.Forms.{StatementState, due_statement}
 use Rattle.php_grammar.specs.statement.Machine.{advance_statement}
 use Rattle.php_grammar.specs.statement.Reading.{halt_statement}
@@ -128,7 +128,7 @@ block_read form r n s (Some ss) w p q lack =
     ∙ body_read form r n s ss (punct mark.RightBrace ∷ w) q (record { quiet = record { strength = refl; catching = refl }; goes = λ xs. tt })
 
 name_read : {N : Type 0} (form : FunctionForm N) (r : Bool) (n : N) (t : Symbol) (w : List Symbol) → form.name_of t ≡ Some n → is_ampersand t ≡ false
-    → run_function form past_function (sign_if r (punct mark.Ampersand) (t ∷ w)) ≡ run_function form (in_signature r n due_signature) w
+    → run_function form past_function (symbol_if r (punct mark.Ampersand) (t ∷ w)) ≡ run_function form (in_signature r n due_signature) w
 name_read form true n t w is apart =
     ap (λ o. or_halted (if_some o (λ x. Some (in_signature true x due_signature))) (λ k. run_function form k w) (halt_function form past_function_reference (t ∷ w))) is
 name_read form false n t w is apart =
@@ -142,6 +142,6 @@ nothing_follows form f (t ∷ w) = refl
 -- What stands behind `function` is read back.
 pub functions_read_back : {N : Type 0} (form : FunctionForm N) (r : Bool) (n : N) (t : Symbol) (s : Signature Nothing) (body : Option (Statements Nothing)) (w : List Symbol)
     → form.name_of t ≡ Some n → is_ampersand t ≡ false → IsProperSignature s → IsProperMethodBody body → MayLack form body
-    → run_function form past_function (sign_if r (punct mark.Ampersand) (t ∷ spell_signature s (spell_method_body body w))) ≡ reading (routine r n s body) [] w
+    → run_function form past_function (symbol_if r (punct mark.Ampersand) (t ∷ spell_signature s (spell_method_body body w))) ≡ reading (routine r n s body) [] w
 functions_read_back form r n t s body w is apart p q lack =
     name_read form r n t (spell_signature s (spell_method_body body w)) is apart ∙ block_read form r n s body w p q lack ∙ nothing_follows form (routine r n s body) w

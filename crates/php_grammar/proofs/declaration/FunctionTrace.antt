@@ -3,18 +3,18 @@ use Rattle.std.proofs.Common.{◌≡◌, ℕ, ◌+◌, Bool, true, false, Option
 use Rattle.php_token.specs.declared.kind.Punct.TheVariants as mark
 use Rattle.php_ast.specs.Symbol.{Symbol, punct}
 use Rattle.php_grammar.specs.expression.Machine.{Nothing, pick}
-use Rattle.php_grammar.specs.expression.Sign.{is_ampersand}
+use Rattle.php_grammar.specs.expression.Role.{is_ampersand}
 use Rattle.php_grammar.specs.Run.{if_some}
 use Rattle.php_grammar.specs.TooDeep.{taken, depths_taken}
 use Rattle.php_ast.specs.statement.Tree.{Statement, Statements, no_statement, and_statement}
-use Rattle.php_ast.specs.statement.Spelling.{sign_if, spell_statement, spell_statements}
-use Rattle.php_ast.specs.statement.Nesting.{sign_nests, nests_statements}
+use Rattle.php_ast.specs.statement.Spelling.{symbol_if, spell_statement, spell_statements}
+use Rattle.php_ast.specs.statement.Nesting.{nests_if, nests_statements}
 use Rattle.php_ast.specs.statement.Proper.{AreProper}
 use Rattle.php_ast.specs.declaration.Tree.{Signature}
 use Rattle.php_ast.specs.declaration.Spelling.{spell_signature, spell_block, spell_method_body}
 use Rattle.php_ast.specs.declaration.Nesting.{signature_nests, method_body_nests}
 use Rattle.php_ast.specs.declaration.Proper.{IsProperSignature, IsProperMethodBody}
-use Rattle.php_grammar.specs.statement.Sign.{StatementBeginning, at_block, statement_beginning}
+use Rattle.php_grammar.specs.statement.Role.{StatementBeginning, at_block, statement_beginning}
 use Rattle.php_grammar.specs.statement.Forms.{StatementState, due_statement}
 use Rattle.php_grammar.specs.statement.Machine.{advance_statement}
 use Rattle.php_grammar.specs.statement.Reading.{halt_statement}
@@ -93,7 +93,7 @@ block_trace form r n s (Some ss) w p q lack =
     ∙ ap (λ u. signature_nests s 0 (0 ∷ u)) (body_trace form r n s ss (punct mark.RightBrace ∷ w) q (record { quiet = record { strength = refl; catching = refl }; goes = λ xs. tt }))
 
 name_trace : {N : Type 0} (form : FunctionForm N) (r : Bool) (n : N) (t : Symbol) (w : List Symbol) → form.name_of t ≡ Some n → is_ampersand t ≡ false
-    → function_trace form past_function (sign_if r (punct mark.Ampersand) (t ∷ w)) ≡ sign_nests r 0 (0 ∷ function_trace form (in_signature r n due_signature) w)
+    → function_trace form past_function (symbol_if r (punct mark.Ampersand) (t ∷ w)) ≡ nests_if r 0 (0 ∷ function_trace form (in_signature r n due_signature) w)
 name_trace form true n t w is apart = ap (λ o. 0 ∷ taken (if_some o (λ x. Some (in_signature true x due_signature))) 0 (λ k. function_trace form k w)) is
 name_trace form false n t w is apart =
     ap (λ b. taken (pick b (Some past_function_reference) (named_step form false t)) 0 (λ k. function_trace form k w)) apart
@@ -105,7 +105,7 @@ nothing_taken form f (t ∷ w) = refl
 
 pub function_nesting : {N : Type 0} (form : FunctionForm N) (r : Bool) (n : N) (t : Symbol) (s : Signature Nothing) (body : Option (Statements Nothing)) (w : List Symbol)
     → form.name_of t ≡ Some n → is_ampersand t ≡ false → IsProperSignature s → IsProperMethodBody body → MayLack form body
-    → function_trace form past_function (sign_if r (punct mark.Ampersand) (t ∷ spell_signature s (spell_method_body body w))) ≡ sign_nests r 0 (0 ∷ signature_nests s 0 (method_body_nests body 0 []))
+    → function_trace form past_function (symbol_if r (punct mark.Ampersand) (t ∷ spell_signature s (spell_method_body body w))) ≡ nests_if r 0 (0 ∷ signature_nests s 0 (method_body_nests body 0 []))
 function_nesting form r n t s body w is apart p q lack =
     name_trace form r n t (spell_signature s (spell_method_body body w)) is apart
-    ∙ ap (λ u. sign_nests r 0 (0 ∷ u)) (block_trace form r n s body w p q lack ∙ ap (λ u. signature_nests s 0 (method_body_nests body 0 u)) (nothing_taken form (routine r n s body) w))
+    ∙ ap (λ u. nests_if r 0 (0 ∷ u)) (block_trace form r n s body w p q lack ∙ ap (λ u. signature_nests s 0 (method_body_nests body 0 u)) (nothing_taken form (routine r n s body) w))

@@ -11,19 +11,19 @@ use Rattle.php_ast.specs.Symbol.{Symbol, keyword, punct}
 use Rattle.php_ast.specs.expression.Tree as tree
 use Rattle.php_ast.specs.expression.Spelling.{spell, member_symbol}
 use Rattle.php_ast.specs.expression.Proper.{IsWord}
-use Rattle.php_grammar.specs.expression.Sign.{is_ampersand}
+use Rattle.php_grammar.specs.expression.Role.{is_ampersand}
 use Rattle.php_grammar.specs.expression.Machine.{Nothing, Form, pick}
 use Rattle.php_grammar.specs.Run.{either, if_some, ReadingOf, reading, or_halted, run_of}
 use Rattle.php_ast.specs.statement.Tree.{Sequence, empty, then_also, Name, Variable, Statements}
-use Rattle.php_ast.specs.statement.Spelling.{commas, sign_if, spell_name, spell_variable, spell_value}
+use Rattle.php_ast.specs.statement.Spelling.{commas, symbol_if, spell_name, spell_variable, spell_value}
 use Rattle.php_ast.specs.statement.Proper.{Each, IfAny}
 use Rattle.php_ast.specs.declaration.Tree.{Modifier, ClassConstant, Rule, renames, prefers, Member, uses, uses_by, class_constants, method, properties}
 use Rattle.php_ast.specs.declaration.Spelling.{joined, modifier_word, spell_modifier, visibility_word, spell_visibility, spell_member_name, spell_alias, spell_origin, spell_rule, spell_class_constant, spell_member, spell_signature, spell_method_body}
 use Rattle.php_ast.specs.declaration.Proper.{is_visibility, is_visibility_word, IsAlias, IsProperRule, IsProperConstant, IsProperMember}
-use Rattle.php_grammar.specs.statement.Sign.{ending, is_right_brace}
+use Rattle.php_grammar.specs.statement.Role.{ending, is_right_brace}
 use Rattle.php_grammar.specs.declaration.FunctionMachine.{method_form, Routine, FunctionState, past_function, advance_function, halt_function}
 use Rattle.php_grammar.specs.declaration.MemberMachine.{visibility_of_keyword, visibility_of, Word, Names, Modifiers, Rules, NamesIn, of_use, of_instead, MemberState, past_modifiers, due_trait, past_trait, due_constant, past_constant, in_constant, due_property, past_property, in_property, in_method, due_rule, past_first_word, past_colons, past_second_word, past_as, past_visibility, due_rule_end, past_member, with_rule, word_here, rule_end, constant_end, property_end, with_constant, with_property, method_of, advance_member, halt_member, read_member}
-use Rattle.php_grammar.proofs.expression.Signs.{word_back}
+use Rattle.php_grammar.proofs.expression.Roles.{word_back}
 use Rattle.php_grammar.proofs.Inside.{Reader, expression_read}
 use Rattle.php_grammar.proofs.Machines.{Halts, Wraps, wrapped_machine}
 use Rattle.php_grammar.proofs.statement.Parts.{at_semicolon, at_comma}
@@ -251,9 +251,9 @@ members_read_back (class_constants ms (then_also xs c)) w p =
     modifiers_read ms (keyword word.Const ∷ commas spell_class_constant (then_also xs c) (punct mark.Semicolon ∷ w)) ∙ constants_led ms xs c (punct mark.Semicolon ∷ w) p.1.0
     ∙ constant_last ms xs c w p.1.1 ∙ nothing_follows (class_constants ms (then_also xs c)) w
 members_read_back (method m) w p =
-    modifiers_read m.modifiers (keyword word.Function ∷ sign_if m.is_reference (punct mark.Ampersand) (member_symbol m.name ∷ spell_signature m.signature (spell_method_body m.body w)))
+    modifiers_read m.modifiers (keyword word.Function ∷ symbol_if m.is_reference (punct mark.Ampersand) (member_symbol m.name ∷ spell_signature m.signature (spell_method_body m.body w)))
     ∙ wrapped_machine (advance_function method_form) (halt_function method_form) advance_member halt_member (function_halts method_form) (method_in m.modifiers)
-    (sign_if m.is_reference (punct mark.Ampersand) (member_symbol m.name ∷ spell_signature m.signature (spell_method_body m.body w))) past_function _ w
+    (symbol_if m.is_reference (punct mark.Ampersand) (member_symbol m.name ∷ spell_signature m.signature (spell_method_body m.body w))) past_function _ w
     (functions_read_back method_form m.is_reference m.name (member_symbol m.name) m.signature m.body w (word_back m.name p.0) (word_no_ampersand m.name) p.1 p.2 (may_lack m.body))
 members_read_back (properties empty xs) w p = let x : true ≡ false = p.0 in cc
 members_read_back (properties (then_also ms m) empty) w p = let x : true ≡ false = p.1 in cc

@@ -14,18 +14,18 @@ use Rattle.php_grammar.specs.expression.Machine.{Nothing, Form, expects}
 use Rattle.php_grammar.specs.expression.Laws.{EndsBefore}
 use Rattle.php_grammar.specs.TooDeep.{taken, depths_taken}
 use Rattle.php_ast.specs.statement.Tree.{Sequence, empty, then_also, Name, Variable}
-use Rattle.php_ast.specs.statement.Spelling.{commas, sign_if, spell_name, spell_variable, spell_value}
+use Rattle.php_ast.specs.statement.Spelling.{commas, symbol_if, spell_name, spell_variable, spell_value}
 use Rattle.php_ast.specs.statement.Nesting.{separated_nests, separator_nests, name_nests, value_nests, variable_nests}
 use Rattle.php_ast.specs.statement.Proper.{Each, IfAny}
 use Rattle.php_ast.specs.declaration.Tree.{Modifier, ClassConstant, Rule, renames, prefers, Member, uses, uses_by, class_constants, method, properties}
 use Rattle.php_ast.specs.declaration.Spelling.{joined, modifier_word, spell_modifier, visibility_word, spell_visibility, spell_member_name, spell_alias, spell_origin, spell_rule, spell_class_constant, spell_member, spell_signature, spell_method_body}
 use Rattle.php_ast.specs.declaration.Nesting.{joined_nests, modifier_nests, one_nests, origin_nests, rule_nests, class_constant_nests, member_nests}
 use Rattle.php_ast.specs.declaration.Proper.{IsAlias, IsProperRule, IsProperConstant, IsProperMember}
-use Rattle.php_grammar.specs.statement.Sign.{ending}
+use Rattle.php_grammar.specs.statement.Role.{ending}
 use Rattle.php_grammar.specs.declaration.FunctionMachine.{method_form, past_function, advance_function}
 use Rattle.php_grammar.specs.declaration.MemberMachine.{Word, Names, Modifiers, Rules, NamesIn, of_use, of_instead, MemberState, past_modifiers, due_trait, past_trait, due_constant, past_constant, in_constant, due_property, past_property, in_method, due_rule, past_first_word, past_colons, past_second_word, past_as, past_visibility, past_member, with_rule, constant_end, property_end, with_constant, with_property, advance_member}
 use Rattle.php_grammar.specs.declaration.Depth.{function_depth_at, names_in_depth, member_depth_at, member_depths_read}
-use Rattle.php_grammar.proofs.expression.Signs.{word_back}
+use Rattle.php_grammar.proofs.expression.Roles.{word_back}
 use Rattle.php_grammar.proofs.Deepened.{Counts, expression_depths, wrapped_depths}
 use Rattle.php_grammar.proofs.expression.Shifts.{nests_shift}
 use Rattle.php_grammar.proofs.statement.Parts.{at_semicolon, at_comma}
@@ -167,7 +167,7 @@ member_nesting (class_constants ms (then_also xs c)) w p =
     ∙ ap (λ u. separated_nests class_constant_nests xs 0 (separator_nests xs 0 u)) (constant_value ms xs c (punct mark.Semicolon) w _ p.1.1 (at_semicolon c.value w) refl
     ∙ ap (λ u. class_constant_nests c 0 (0 ∷ u)) (nothing_taken (class_constants ms (then_also xs c)) w)))
 member_nesting (method m) w p =
-    let rest : List Symbol = sign_if m.is_reference (punct mark.Ampersand) (member_symbol m.name ∷ spell_signature m.signature (spell_method_body m.body w)) in
+    let rest : List Symbol = symbol_if m.is_reference (punct mark.Ampersand) (member_symbol m.name ∷ spell_signature m.signature (spell_method_body m.body w)) in
     modifiers_trace m.modifiers (keyword word.Function ∷ rest)
     ∙ ap (λ u. joined_nests modifier_nests m.modifiers 0 (0 ∷ u))
     (wrapped_depths (advance_function method_form) advance_member (λ f. in_method m.modifiers f) function_depth_at member_depth_at (λ f t. refl) (λ f t. refl) rest past_function

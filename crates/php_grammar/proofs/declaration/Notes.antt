@@ -3,7 +3,7 @@ use Rattle.std.proofs.Common.{◌≡◌, ℕ, ◌+◌, Option, Some, None, refl,
 use Rattle.php_ast.specs.expression.Tree as tree
 use Rattle.php_ast.specs.expression.Placed.{Notes}
 use Rattle.php_ast.specs.statement.Tree.{Sequence, empty, then_also, Name, Statements}
-use Rattle.php_ast.specs.statement.Placed.{size_separated, noted_separated, size_name, noted_name, size_sign, size_variable, noted_variable}
+use Rattle.php_ast.specs.statement.Placed.{size_separated, noted_separated, size_name, noted_name, size_if, size_variable, noted_variable}
 use Rattle.php_ast.specs.declaration.Tree.{Base, of_name, of_array, of_callable, Type_of, Param, Signature, Function, Modifier, ClassWord, ClassConstant, Method, Rule, renames, prefers, Member, uses, uses_by, class_constants, method, properties, Class, Item, of_statement, of_function, of_class, of_interface, of_trait, Script}
 use Rattle.php_ast.specs.declaration.Placed.{size_joined, noted_joined, noted_base, noted_type, size_declared, noted_declared, size_marks, size_param, noted_param, size_result, size_signature, noted_signature, size_function, noted_function, size_modifier, noted_modifier, noted_modifiers, size_class_constant, noted_class_constant, size_method_body, noted_method_body, size_method, noted_method, size_one, noted_alias, size_origin, noted_one_name, size_rule, noted_rule, size_member, noted_class_member, size_class_word, noted_class_word, size_parent, size_names, size_members, noted_names, noted_members, size_class_words, noted_declared_class, size_item, noted_item, noted_script}
 use Rattle.php_grammar.proofs.expression.Notes.{size_noted, again, member_again}
@@ -30,7 +30,7 @@ base_again f g i at of_array = refl
 base_again f g i at of_callable = refl
 
 type_again : {S T U : Type 0} (f : Notes T) (g : Notes U) (i at : ℕ) (t : Type_of S) → noted_type g at (noted_type f i t) ≡ noted_type g at t
-type_again f g i at t = cc (base_again f g (i + size_sign t.is_nullable) (at + size_sign t.is_nullable) t.base)
+type_again f g i at t = cc (base_again f g (i + size_if t.is_nullable) (at + size_if t.is_nullable) t.base)
 
 declared_noted : {S T : Type 0} (f : Notes T) (at : ℕ) (t : Option (Type_of S)) → size_declared (noted_declared f at t) ≡ size_declared t
 declared_noted f at None = refl
@@ -73,16 +73,16 @@ signature_again f g i at s =
 function_noted : {S T : Type 0} (f : Notes T) (at : ℕ) (h : Function S) → size_function (noted_function f at h) ≡ size_function h
 function_noted f at h =
     cc (
-      signature_noted f (at + 1 + size_sign h.is_reference + 1) h.signature,
-      statements_noted f (at + 1 + size_sign h.is_reference + 1 + size_signature h.signature + 1) h.body,
+      signature_noted f (at + 1 + size_if h.is_reference + 1) h.signature,
+      statements_noted f (at + 1 + size_if h.is_reference + 1 + size_signature h.signature + 1) h.body,
     )
 
 function_again : {S T U : Type 0} (f : Notes T) (g : Notes U) (i at : ℕ) (h : Function S) → noted_function g at (noted_function f i h) ≡ noted_function g at h
 function_again f g i at h =
     cc (
-      signature_noted f (i + 1 + size_sign h.is_reference + 1) h.signature,
-      signature_again f g (i + 1 + size_sign h.is_reference + 1) (at + 1 + size_sign h.is_reference + 1) h.signature,
-      statements_again f g (i + 1 + size_sign h.is_reference + 1 + size_signature h.signature + 1) (at + 1 + size_sign h.is_reference + 1 + size_signature h.signature + 1) h.body,
+      signature_noted f (i + 1 + size_if h.is_reference + 1) h.signature,
+      signature_again f g (i + 1 + size_if h.is_reference + 1) (at + 1 + size_if h.is_reference + 1) h.signature,
+      statements_again f g (i + 1 + size_if h.is_reference + 1 + size_signature h.signature + 1) (at + 1 + size_if h.is_reference + 1 + size_signature h.signature + 1) h.body,
     )
 
 -- ---- members
@@ -111,18 +111,18 @@ method_noted : {S T : Type 0} (f : Notes T) (first at : ℕ) (m : Method S) → 
 method_noted f first at m =
     cc (
       modifiers_noted f first m.modifiers,
-      signature_noted f (at + 1 + size_sign m.is_reference + 1) m.signature,
-      body_noted f (at + 1 + size_sign m.is_reference + 1 + size_signature m.signature) m.body,
+      signature_noted f (at + 1 + size_if m.is_reference + 1) m.signature,
+      body_noted f (at + 1 + size_if m.is_reference + 1 + size_signature m.signature) m.body,
     )
 
 method_again : {S T U : Type 0} (f : Notes T) (g : Notes U) (first i start at : ℕ) (m : Method S) → noted_method g start at (noted_method f first i m) ≡ noted_method g start at m
 method_again f g first i start at m =
     cc (
       modifiers_again f g first start m.modifiers,
-      member_again f g (i + 1 + size_sign m.is_reference) (at + 1 + size_sign m.is_reference) m.name,
-      signature_noted f (i + 1 + size_sign m.is_reference + 1) m.signature,
-      signature_again f g (i + 1 + size_sign m.is_reference + 1) (at + 1 + size_sign m.is_reference + 1) m.signature,
-      body_again f g (i + 1 + size_sign m.is_reference + 1 + size_signature m.signature) (at + 1 + size_sign m.is_reference + 1 + size_signature m.signature) m.body,
+      member_again f g (i + 1 + size_if m.is_reference) (at + 1 + size_if m.is_reference) m.name,
+      signature_noted f (i + 1 + size_if m.is_reference + 1) m.signature,
+      signature_again f g (i + 1 + size_if m.is_reference + 1) (at + 1 + size_if m.is_reference + 1) m.signature,
+      body_again f g (i + 1 + size_if m.is_reference + 1 + size_signature m.signature) (at + 1 + size_if m.is_reference + 1 + size_signature m.signature) m.body,
     )
 
 alias_noted : {S T : Type 0} (f : Notes T) (at : ℕ) (alias : Option (tree.Member S)) → size_one (noted_alias f at alias) ≡ size_one alias

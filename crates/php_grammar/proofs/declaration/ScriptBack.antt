@@ -12,18 +12,18 @@ use Rattle.php_ast.specs.Symbol.{Symbol, keyword, punct}
 use Rattle.php_grammar.specs.expression.Machine.{Nothing, pick}
 use Rattle.php_grammar.specs.Run.{ReadingOf, or_halted, run_of}
 use Rattle.php_ast.specs.statement.Tree.{Sequence, empty, then_also, Name, Statement}
-use Rattle.php_ast.specs.statement.Spelling.{commas, sign_if, spell_name, spell_variable, spell_statement}
+use Rattle.php_ast.specs.statement.Spelling.{commas, symbol_if, spell_name, spell_variable, spell_statement}
 use Rattle.php_ast.specs.statement.Proper.{Each, IsProper}
 use Rattle.php_ast.specs.declaration.Tree.{Modifier, Function, Member, uses, uses_by, class_constants, method, properties, Item, of_statement, of_function, of_class, of_interface, of_trait, Script}
 use Rattle.php_ast.specs.declaration.Spelling.{joined, modifier_word, spell_modifier, class_modifier_word, spell_class_word, spell_parent, spell_names, spell_member, spell_members, spell_signature, spell_block, spell_function, spell_item, spell_script}
 use Rattle.php_ast.specs.declaration.Proper.{IsProperFunction, IsProperMember, IsProperItem, IsProperScript}
-use Rattle.php_grammar.specs.statement.Sign.{is_right_brace}
+use Rattle.php_grammar.specs.statement.Role.{is_right_brace}
 use Rattle.php_grammar.specs.statement.Forms.{StatementState, due_statement}
 use Rattle.php_grammar.specs.statement.Machine.{advance_statement}
 use Rattle.php_grammar.specs.statement.Reading.{halt_statement}
 use Rattle.php_grammar.specs.declaration.FunctionMachine.{function_form, Routine, routine, FunctionState, past_function, advance_function, halt_function}
-use Rattle.php_grammar.specs.declaration.MemberMachine.{MemberState, past_modifiers, advance_member, halt_member, MemberSign, modifier_sign, function_sign as method_sign, const_sign, use_sign, member_sign, first_step}
-use Rattle.php_grammar.specs.declaration.ScriptMachine.{Items, Names, ClassWords, Heading, class_heading, interface_heading, trait_heading, ScriptState, due_item, in_statement, in_function, past_class_words, past_heading, due_interface, due_member, in_member, ItemSign, statement_sign, item_sign, item_keyword, with_item, function_of, item_begun, item_step, member_begun, member_step, advance_script, halt_script, read_script}
+use Rattle.php_grammar.specs.declaration.MemberMachine.{MemberState, past_modifiers, advance_member, halt_member, MemberRole, at_modifier, at_function as at_method, at_class_constants, at_use, member_role, first_step}
+use Rattle.php_grammar.specs.declaration.ScriptMachine.{Items, Names, ClassWords, Heading, class_heading, interface_heading, trait_heading, ScriptState, due_item, in_statement, in_function, past_class_words, past_heading, due_interface, due_member, in_member, ItemRole, at_statement, item_role, item_keyword, with_item, function_of, item_begun, item_step, member_begun, member_step, advance_script, halt_script, read_script}
 use Rattle.php_grammar.specs.declaration.Laws.{SpellsScript}
 use Rattle.php_grammar.proofs.Machines.{Holds, IsSome, through_some, some_either, some_in, end_of_machine}
 use Rattle.php_grammar.proofs.statement.Starts.{starts_statement, StartsStatement, begin_goes, statement_starts}
@@ -37,16 +37,16 @@ run = run_of advance_script halt_script
 
 -- ---- the first symbol of a member
 
-abbrev pub begins_member : MemberSign → Bool
-begins_member (modifier_sign x) = true
-begins_member method_sign = true
-begins_member const_sign = true
-begins_member use_sign = true
+abbrev pub begins_member : MemberRole → Bool
+begins_member (at_modifier x) = true
+begins_member at_method = true
+begins_member at_class_constants = true
+begins_member at_use = true
 begins_member _ = false
 
 abbrev pub StartsMember : List Symbol → Type 0
 StartsMember [] = ⊥
-StartsMember (t ∷ w) = begins_member (member_sign t) ≡ true
+StartsMember (t ∷ w) = begins_member (member_role t) ≡ true
 
 modifier_starts : (x : ModifierWord) (w : List Symbol) → StartsMember (keyword (modifier_word x) ∷ w)
 modifier_starts modifier.Public w = refl
@@ -64,17 +64,17 @@ member_starts (method m) w p = modifiers_start m.modifiers _ refl
 member_starts (properties empty variables) w p = let x : true ≡ false = p.0 in cc
 member_starts (properties (then_also ms m) variables) w p = modifiers_start ms (spell_modifier m (commas spell_variable variables (punct mark.Semicolon ∷ w))) (modifier_starts m.word (commas spell_variable variables (punct mark.Semicolon ∷ w)))
 
-pub first_goes : (t : Symbol) → begins_member (member_sign t) ≡ true → IsSome (advance_member (past_modifiers empty) t)
-first_goes t h = by_sign (member_sign t) h
+pub first_goes : (t : Symbol) → begins_member (member_role t) ≡ true → IsSome (advance_member (past_modifiers empty) t)
+first_goes t h = by_role (member_role t) h
   where
-    by_sign : (x : MemberSign) → begins_member x ≡ true → IsSome (first_step empty x)
-    by_sign (modifier_sign x) h = tt
-    by_sign method_sign h = tt
-    by_sign const_sign h = tt
-    by_sign use_sign h = tt
-    by_sign _ h = cc
+    by_role : (x : MemberRole) → begins_member x ≡ true → IsSome (first_step empty x)
+    by_role (at_modifier x) h = tt
+    by_role at_method h = tt
+    by_role at_class_constants h = tt
+    by_role at_use h = tt
+    by_role _ h = cc
 
-pub starts_no_brace : (t : Symbol) → begins_member (member_sign t) ≡ true → is_right_brace t ≡ false
+pub starts_no_brace : (t : Symbol) → begins_member (member_role t) ≡ true → is_right_brace t ≡ false
 starts_no_brace (punct p) h = cc
 starts_no_brace _ h = refl
 
@@ -88,7 +88,7 @@ abbrev pub ContinuesMembers : Items → Heading → List Symbol → Type 0
 ContinuesMembers items heading [] = ⊥
 ContinuesMembers items heading (t ∷ w) = (ms : Sequence (Member Nothing)) → IsSome (member_step items heading ms t)
 
-member_goes : (items : Items) (heading : Heading) (ms : Sequence (Member Nothing)) (t : Symbol) (b : Bool) → is_right_brace t ≡ b → b ≡ false → begins_member (member_sign t) ≡ true
+member_goes : (items : Items) (heading : Heading) (ms : Sequence (Member Nothing)) (t : Symbol) (b : Bool) → is_right_brace t ≡ b → b ≡ false → begins_member (member_role t) ≡ true
     → IsSome (pick b (Some (due_item (with_item items heading ms))) (member_begun items heading ms (past_modifiers empty) t))
 member_goes items heading ms t true is h go = cc
 member_goes items heading ms t false is h go = some_in (λ m. in_member items heading ms m) (advance_member (past_modifiers empty) t) (first_goes t go)
@@ -186,7 +186,7 @@ statement_in items = record { on = λ m. in_statement items m; ended = λ t a. i
 abbrev pub function_in : Items → Holds (FunctionState (Name Nothing)) ScriptState (Routine (Name Nothing)) (advance_function function_form) (halt_function function_form) advance_script
 function_in items = record { on = λ m. in_function items m; ended = λ t f. item_step (then_also items (function_of f)) t; steps = λ m t. refl }
 
-keyword_statement : (k : Keyword) → starts_statement (keyword k) ≡ true → item_keyword k ≡ statement_sign
+keyword_statement : (k : Keyword) → starts_statement (keyword k) ≡ true → item_keyword k ≡ at_statement
 keyword_statement word.Function h = cc
 keyword_statement word.Class h = cc
 keyword_statement word.Abstract h = cc
@@ -195,7 +195,7 @@ keyword_statement word.Interface h = cc
 keyword_statement word.Trait h = cc
 keyword_statement _ h = refl
 
-pub begins_statement : (t : Symbol) → starts_statement t ≡ true → item_sign t ≡ statement_sign
+pub begins_statement : (t : Symbol) → starts_statement t ≡ true → item_role t ≡ at_statement
 begins_statement (keyword k) h = keyword_statement k h
 begins_statement _ h = refl
 
@@ -208,13 +208,13 @@ abbrev pub ContinuesItems : List Symbol → Type 0
 ContinuesItems [] = Unit {0}
 ContinuesItems (t ∷ w) = Continues t w
 
-statement_goes : (items : Items) (t : Symbol) (x : ItemSign) → x ≡ statement_sign → starts_statement t ≡ true → IsSome (item_begun items x t)
-statement_goes items t statement_sign h go = some_in (λ m. in_statement items m) (advance_statement (due_statement []) t) (begin_goes [] t go)
+statement_goes : (items : Items) (t : Symbol) (x : ItemRole) → x ≡ at_statement → starts_statement t ≡ true → IsSome (item_begun items x t)
+statement_goes items t at_statement h go = some_in (λ m. in_statement items m) (advance_statement (due_statement []) t) (begin_goes [] t go)
 statement_goes items t _ h go = tt
 
 statement_continues : (w : List Symbol) → StartsStatement w → ContinuesItems w
 statement_continues [] h = tt
-statement_continues (t ∷ w) h = record { quiet = starts_quiet (t ∷ w) h; goes = λ items. statement_goes items t (item_sign t) (begins_statement t h) h }
+statement_continues (t ∷ w) h = record { quiet = starts_quiet (t ∷ w) h; goes = λ items. statement_goes items t (item_role t) (begins_statement t h) h }
 
 words_continue : (ws : ClassWords) (w : List Symbol) → ContinuesItems w → ContinuesItems (joined spell_class_word ws w)
 words_continue empty w h = h
@@ -248,7 +248,7 @@ statement_read items a (t ∷ w) p h =
     (halt_script (due_item (then_also items (of_statement a))) (t ∷ w)) (h.goes (then_also items (of_statement a))) (statements_read_back a (t ∷ w) p (quiet_ends a (t ∷ w) h.quiet))
 
 abbrev pub behind_function : Function Nothing → List Symbol → List Symbol
-behind_function f w = sign_if f.is_reference (punct mark.Ampersand) (spell_name f.name (spell_signature f.signature (spell_block f.body w)))
+behind_function f w = symbol_if f.is_reference (punct mark.Ampersand) (spell_name f.name (spell_signature f.signature (spell_block f.body w)))
 
 function_read : (items : Items) (f : Function Nothing) (w : List Symbol) → IsProperFunction f → ContinuesItems w → run (due_item items) (spell_function f w) ≡ run (due_item (then_also items (of_function f))) w
 function_read items f [] p h =

@@ -10,13 +10,13 @@ use Rattle.php_grammar.specs.expression.Machine.{Nothing, pick}
 use Rattle.php_grammar.specs.TooDeep.{taken, depths_taken}
 use Rattle.php_ast.specs.statement.Tree.{Sequence, empty, then_also, Name, Statement, Statements}
 use Rattle.php_ast.specs.statement.Spelling.{commas, spell_name, spell_statement}
-use Rattle.php_ast.specs.statement.Nesting.{separated_nests, name_nests, sign_nests, nests_statement}
+use Rattle.php_ast.specs.statement.Nesting.{separated_nests, name_nests, nests_if, nests_statement}
 use Rattle.php_ast.specs.statement.Proper.{Each, IsProper}
 use Rattle.php_ast.specs.declaration.Tree.{Signature, Function, Member, Item, of_statement, of_function, of_class, of_interface, of_trait, Script}
 use Rattle.php_ast.specs.declaration.Spelling.{joined, class_modifier_word, spell_class_word, spell_parent, spell_names, spell_member, spell_members, spell_function, spell_item, spell_script}
 use Rattle.php_ast.specs.declaration.Nesting.{joined_nests, signature_nests, method_body_nests, function_nests, member_nests, class_word_nests, parent_nests, names_nests, members_nests, item_nests, script_nests}
 use Rattle.php_ast.specs.declaration.Proper.{IsProperFunction, IsProperMember, IsProperItem, IsProperScript}
-use Rattle.php_grammar.specs.statement.Sign.{statement_beginning}
+use Rattle.php_grammar.specs.statement.Role.{statement_beginning}
 use Rattle.php_grammar.specs.statement.Forms.{StatementState, due_statement}
 use Rattle.php_grammar.specs.statement.Machine.{advance_statement}
 use Rattle.php_grammar.specs.statement.Reading.{halt_statement}
@@ -27,7 +27,7 @@ use Rattle.php_grammar.specs.declaration.MemberMachine.{MemberState, past_modifi
 use Rattle.php_grammar.specs.declaration.ScriptMachine.{Items, Names, ClassWords, Heading, class_heading, interface_heading, trait_heading, ScriptState, due_item, in_statement, past_class_words, past_heading, due_interface, due_member, in_member, with_item, item_begun, member_begun, advance_script}
 use Rattle.php_grammar.specs.declaration.Depth.{function_depth_at, member_depth_at, script_depth_at, script_depths_read}
 use Rattle.php_grammar.proofs.Deepened.{CountsInside, some_depths, some_entered, end_depths, shifted}
-use Rattle.php_grammar.proofs.statement.Shifts.{sign_shift, statement_shift}
+use Rattle.php_grammar.proofs.statement.Shifts.{shift_if, statement_shift}
 use Rattle.php_grammar.proofs.declaration.Shifts.{signature_shift, body_shift, member_shift}
 use Rattle.php_grammar.proofs.statement.Starts.{StartsStatement, begin_goes, statement_starts}
 use Rattle.php_grammar.proofs.statement.Back.{quiet_ends}
@@ -165,10 +165,10 @@ statement_trace items a (t ∷ w) p h =
 
 -- what stands behind `function`, with other depths behind it
 routine_shift : (r : Bool) (s : Signature Nothing) (body : Option (Statements Nothing)) (w : List ℕ)
-    → shifted 0 (sign_nests r 0 (0 ∷ signature_nests s 0 (method_body_nests body 0 []))) w ≡ sign_nests r 0 (0 ∷ signature_nests s 0 (method_body_nests body 0 w))
+    → shifted 0 (nests_if r 0 (0 ∷ signature_nests s 0 (method_body_nests body 0 []))) w ≡ nests_if r 0 (0 ∷ signature_nests s 0 (method_body_nests body 0 w))
 routine_shift r s body w =
-    sym (ap (λ u. sign_nests r 0 (0 ∷ signature_nests s 0 u)) (body_shift body 0 0 [] w) ∙ ap (λ u. sign_nests r 0 (0 ∷ u)) (signature_shift s 0 0 (method_body_nests body 0 []) w)
-    ∙ sign_shift r 0 0 (0 ∷ signature_nests s 0 (method_body_nests body 0 [])) w)
+    sym (ap (λ u. nests_if r 0 (0 ∷ signature_nests s 0 u)) (body_shift body 0 0 [] w) ∙ ap (λ u. nests_if r 0 (0 ∷ u)) (signature_shift s 0 0 (method_body_nests body 0 []) w)
+    ∙ shift_if r 0 0 (0 ∷ signature_nests s 0 (method_body_nests body 0 [])) w)
 
 function_trace : (items : Items) (f : Function Nothing) (w : List Symbol) → IsProperFunction f → ContinuesItems w
     → trace (due_item items) (spell_function f w) ≡ function_nests f 0 (trace (due_item (then_also items (of_function f))) w)

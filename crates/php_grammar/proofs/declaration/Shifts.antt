@@ -1,12 +1,12 @@
 -- The nesting of a declaration that stands deeper.
 use Rattle.std.proofs.Common.{◌≡◌, ℕ, ◌+◌, Option, Some, None, List, ◌∷◌, refl, ◌∙◌, ap}
 use Rattle.php_ast.specs.statement.Tree.{Sequence, empty, then_also, Name, Statements}
-use Rattle.php_ast.specs.statement.Nesting.{separated_nests, name_nests, value_nests, variable_nests, sign_nests, nests_statements}
+use Rattle.php_ast.specs.statement.Nesting.{separated_nests, name_nests, value_nests, variable_nests, nests_if, nests_statements}
 use Rattle.php_ast.specs.declaration.Tree.{Type_of, Param, Signature, Modifier, ClassConstant, Rule, renames, prefers, Method, Member, uses, uses_by, class_constants, method, properties}
 use Rattle.php_ast.specs.declaration.Nesting.{joined_nests, type_nests, declared_nests, param_nests, result_nests, signature_nests, block_nests, modifier_nests, one_nests, origin_nests, rule_nests, class_constant_nests, method_body_nests, method_nests, member_nests}
 use Rattle.php_grammar.proofs.Deepened.{shifted}
 use Rattle.php_grammar.proofs.expression.Shifts.{one_more, nests_shift}
-use Rattle.php_grammar.proofs.statement.Shifts.{separated_shift, name_shift, value_shift, variable_shift, sign_shift, statements_shift}
+use Rattle.php_grammar.proofs.statement.Shifts.{separated_shift, name_shift, value_shift, variable_shift, shift_if, statements_shift}
 
 joined_shift : {A : Type 0} (each : A → ℕ → List ℕ → List ℕ) → ((x : A) (d k : ℕ) (ns w : List ℕ) → each x (d + k) (shifted k ns w) ≡ shifted k (each x d ns) w)
     → (xs : Sequence A) (d k : ℕ) (ns w : List ℕ) → joined_nests each xs (d + k) (shifted k ns w) ≡ shifted k (joined_nests each xs d ns) w
@@ -14,7 +14,7 @@ joined_shift each h empty d k ns w = refl
 joined_shift each h (then_also xs x) d k ns w = ap (joined_nests each xs (d + k)) (h x d k ns w) ∙ joined_shift each h xs d k (each x d ns) w
 
 type_shift : {S : Type 0} (x : Type_of S) (d k : ℕ) (ns w : List ℕ) → type_nests x (d + k) (shifted k ns w) ≡ shifted k (type_nests x d ns) w
-type_shift t d k ns w = sign_shift t.is_nullable d k (d ∷ ns) w
+type_shift t d k ns w = shift_if t.is_nullable d k (d ∷ ns) w
 
 declared_shift : {S : Type 0} (x : Option (Type_of S)) (d k : ℕ) (ns w : List ℕ) → declared_nests x (d + k) (shifted k ns w) ≡ shifted k (declared_nests x d ns) w
 declared_shift None d k ns w = refl
@@ -22,10 +22,10 @@ declared_shift (Some t) d k ns w = type_shift t d k ns w
 
 param_shift : {S : Type 0} (x : Param S) (d k : ℕ) (ns w : List ℕ) → param_nests x (d + k) (shifted k ns w) ≡ shifted k (param_nests x d ns) w
 param_shift p d k ns w =
-    ap (λ u. declared_nests p.declared (d + k) (sign_nests p.is_reference (d + k) (sign_nests p.is_variadic (d + k) ((d + k) ∷ u)))) (value_shift p.default d k ns w)
-    ∙ ap (λ u. declared_nests p.declared (d + k) (sign_nests p.is_reference (d + k) u)) (sign_shift p.is_variadic d k (d ∷ value_nests p.default d ns) w)
-    ∙ ap (λ u. declared_nests p.declared (d + k) u) (sign_shift p.is_reference d k (sign_nests p.is_variadic d (d ∷ value_nests p.default d ns)) w)
-    ∙ declared_shift p.declared d k (sign_nests p.is_reference d (sign_nests p.is_variadic d (d ∷ value_nests p.default d ns))) w
+    ap (λ u. declared_nests p.declared (d + k) (nests_if p.is_reference (d + k) (nests_if p.is_variadic (d + k) ((d + k) ∷ u)))) (value_shift p.default d k ns w)
+    ∙ ap (λ u. declared_nests p.declared (d + k) (nests_if p.is_reference (d + k) u)) (shift_if p.is_variadic d k (d ∷ value_nests p.default d ns) w)
+    ∙ ap (λ u. declared_nests p.declared (d + k) u) (shift_if p.is_reference d k (nests_if p.is_variadic d (d ∷ value_nests p.default d ns)) w)
+    ∙ declared_shift p.declared d k (nests_if p.is_reference d (nests_if p.is_variadic d (d ∷ value_nests p.default d ns))) w
 
 result_shift : {S : Type 0} (x : Option (Type_of S)) (d k : ℕ) (ns w : List ℕ) → result_nests x (d + k) (shifted k ns w) ≡ shifted k (result_nests x d ns) w
 result_shift None d k ns w = refl
@@ -67,10 +67,10 @@ constant_shift c d k ns w = ap (λ u. (d + k) ∷ (d + k) ∷ u) (nests_shift c.
 
 method_shift : {S : Type 0} (x : Method S) (d k : ℕ) (ns w : List ℕ) → method_nests x (d + k) (shifted k ns w) ≡ shifted k (method_nests x d ns) w
 method_shift m d k ns w =
-    ap (λ u. joined_nests modifier_nests m.modifiers (d + k) ((d + k) ∷ sign_nests m.is_reference (d + k) ((d + k) ∷ signature_nests m.signature (d + k) u))) (body_shift m.body d k ns w)
-    ∙ ap (λ u. joined_nests modifier_nests m.modifiers (d + k) ((d + k) ∷ sign_nests m.is_reference (d + k) ((d + k) ∷ u))) (signature_shift m.signature d k (method_body_nests m.body d ns) w)
-    ∙ ap (λ u. joined_nests modifier_nests m.modifiers (d + k) ((d + k) ∷ u)) (sign_shift m.is_reference d k (d ∷ signature_nests m.signature d (method_body_nests m.body d ns)) w)
-    ∙ joined_shift modifier_nests modifier_shift m.modifiers d k (d ∷ sign_nests m.is_reference d (d ∷ signature_nests m.signature d (method_body_nests m.body d ns))) w
+    ap (λ u. joined_nests modifier_nests m.modifiers (d + k) ((d + k) ∷ nests_if m.is_reference (d + k) ((d + k) ∷ signature_nests m.signature (d + k) u))) (body_shift m.body d k ns w)
+    ∙ ap (λ u. joined_nests modifier_nests m.modifiers (d + k) ((d + k) ∷ nests_if m.is_reference (d + k) ((d + k) ∷ u))) (signature_shift m.signature d k (method_body_nests m.body d ns) w)
+    ∙ ap (λ u. joined_nests modifier_nests m.modifiers (d + k) ((d + k) ∷ u)) (shift_if m.is_reference d k (d ∷ signature_nests m.signature d (method_body_nests m.body d ns)) w)
+    ∙ joined_shift modifier_nests modifier_shift m.modifiers d k (d ∷ nests_if m.is_reference d (d ∷ signature_nests m.signature d (method_body_nests m.body d ns))) w
 
 pub member_shift : {S : Type 0} (x : Member S) (d k : ℕ) (ns w : List ℕ) → member_nests x (d + k) (shifted k ns w) ≡ shifted k (member_nests x d ns) w
 member_shift (uses note names) d k ns w = ap (λ u. (d + k) ∷ u) (separated_shift name_nests name_shift names d k (d ∷ ns) w)

@@ -3,15 +3,15 @@ use Rattle.std.proofs.Common.{◌≡◌, Bool, true, false, Option, Some, None, 
 use Rattle.php_token.specs.declared.kind.Punct.TheVariants as mark
 use Rattle.php_ast.specs.Symbol.{Symbol, punct}
 use Rattle.php_grammar.specs.expression.Machine.{Nothing, Form, pick}
-use Rattle.php_grammar.specs.expression.Sign.{is_colon}
+use Rattle.php_grammar.specs.expression.Role.{is_colon}
 use Rattle.php_grammar.specs.Run.{ReadingOf, or_halted, run_of}
 use Rattle.php_ast.specs.statement.Tree.{empty, then_also, Name}
-use Rattle.php_ast.specs.statement.Spelling.{commas, sign_if, spell_dollar, spell_value}
+use Rattle.php_ast.specs.statement.Spelling.{commas, symbol_if, spell_dollar, spell_value}
 use Rattle.php_ast.specs.statement.Proper.{IfAny, Each}
 use Rattle.php_ast.specs.declaration.Tree.{Base, of_name, of_array, of_callable, Type_of, Param, Signature}
 use Rattle.php_ast.specs.declaration.Spelling.{spell_declared, spell_type, spell_param, spell_result, spell_signature}
 use Rattle.php_ast.specs.declaration.Proper.{IsProperParam, IsProperSignature}
-use Rattle.php_grammar.specs.statement.Sign.{ending}
+use Rattle.php_grammar.specs.statement.Role.{ending}
 use Rattle.php_grammar.specs.declaration.SignatureMachine.{SignatureState, due_signature, due_param, past_type, past_param, in_default, past_params, due_result, past_signature, param_of, with_default, signature_of, param_end, advance_signature, halt_signature, read_signature, Params, Declared}
 use Rattle.php_grammar.specs.declaration.Laws.{SignatureEnds}
 use Rattle.php_grammar.proofs.Inside.{Reader, expression_read}
@@ -56,14 +56,14 @@ signature_halts = record { unread = signature_unread; tree = signature_tree; mis
 -- ---- parameters
 
 marks_typed : (xs : Params) (declared : Declared) (r v : Bool) (n : Name Nothing) (w : List Symbol)
-    → run (past_type xs declared) (sign_if r (punct mark.Ampersand) (sign_if v (punct mark.Ellipsis) (spell_dollar n w))) ≡ run (past_param xs (param_of declared r v n)) w
+    → run (past_type xs declared) (symbol_if r (punct mark.Ampersand) (symbol_if v (punct mark.Ellipsis) (spell_dollar n w))) ≡ run (past_param xs (param_of declared r v n)) w
 marks_typed xs declared true true n w = refl
 marks_typed xs declared true false n w = refl
 marks_typed xs declared false true n w = refl
 marks_typed xs declared false false n w = refl
 
 marks_untyped : (xs : Params) (r v : Bool) (n : Name Nothing) (w : List Symbol)
-    → run (due_param xs) (sign_if r (punct mark.Ampersand) (sign_if v (punct mark.Ellipsis) (spell_dollar n w))) ≡ run (past_param xs (param_of None r v n)) w
+    → run (due_param xs) (symbol_if r (punct mark.Ampersand) (symbol_if v (punct mark.Ellipsis) (spell_dollar n w))) ≡ run (past_param xs (param_of None r v n)) w
 marks_untyped xs true true n w = refl
 marks_untyped xs true false n w = refl
 marks_untyped xs false true n w = refl
@@ -79,7 +79,7 @@ type_read xs false of_array w = refl
 type_read xs false of_callable w = refl
 
 front_read : (xs : Params) (declared : Declared) (r v : Bool) (n : Name Nothing) (w : List Symbol)
-    → run (due_param xs) (spell_declared declared (sign_if r (punct mark.Ampersand) (sign_if v (punct mark.Ellipsis) (spell_dollar n w)))) ≡ run (past_param xs (param_of declared r v n)) w
+    → run (due_param xs) (spell_declared declared (symbol_if r (punct mark.Ampersand) (symbol_if v (punct mark.Ellipsis) (spell_dollar n w)))) ≡ run (past_param xs (param_of declared r v n)) w
 front_read xs None r v n w = marks_untyped xs r v n w
 front_read xs (Some t) r v n w = type_read xs t.is_nullable t.base _ ∙ marks_typed xs (Some t) r v n w
 

@@ -7,17 +7,17 @@ use Rattle.php_ast.specs.expression.Nesting.{nests}
 use Rattle.php_ast.specs.expression.Proper.{Proper}
 use Rattle.php_grammar.specs.expression.Machine.{Nothing, Form, expects, pick}
 use Rattle.php_grammar.specs.expression.Laws.{EndsBefore}
-use Rattle.php_grammar.specs.expression.Sign.{is_colon}
+use Rattle.php_grammar.specs.expression.Role.{is_colon}
 use Rattle.php_grammar.specs.TooDeep.{taken, depths_taken}
 use Rattle.php_ast.specs.statement.Tree.{empty, then_also, Name}
-use Rattle.php_ast.specs.statement.Spelling.{commas, sign_if, spell_dollar, spell_value}
-use Rattle.php_ast.specs.statement.Nesting.{separated_nests, separator_nests, sign_nests, value_nests}
+use Rattle.php_ast.specs.statement.Spelling.{commas, symbol_if, spell_dollar, spell_value}
+use Rattle.php_ast.specs.statement.Nesting.{separated_nests, separator_nests, nests_if, value_nests}
 use Rattle.php_ast.specs.statement.Proper.{IfAny, Each}
 use Rattle.php_ast.specs.declaration.Tree.{Base, of_name, of_array, of_callable, Type_of, Param, Signature}
 use Rattle.php_ast.specs.declaration.Spelling.{spell_declared, spell_type, spell_param, spell_result, spell_signature}
 use Rattle.php_ast.specs.declaration.Nesting.{type_nests, declared_nests, param_nests, result_nests, signature_nests}
 use Rattle.php_ast.specs.declaration.Proper.{IsProperParam, IsProperSignature}
-use Rattle.php_grammar.specs.statement.Sign.{ending}
+use Rattle.php_grammar.specs.statement.Role.{ending}
 use Rattle.php_grammar.specs.declaration.SignatureMachine.{SignatureState, due_param, past_type, past_param, in_default, past_params, due_result, past_signature, param_of, with_default, signature_of, param_end, advance_signature, Params, Declared}
 use Rattle.php_grammar.specs.declaration.Depth.{signature_depth_at, signature_depths_read}
 use Rattle.php_grammar.specs.declaration.Laws.{ResultEnds, SignatureEnds}
@@ -30,16 +30,16 @@ abbrev trace : SignatureState → List Symbol → List ℕ
 trace = depths_taken advance_signature signature_depth_at
 
 marks_typed : (xs : Params) (declared : Declared) (r v : Bool) (n : Name Nothing) (w : List Symbol)
-    → trace (past_type xs declared) (sign_if r (punct mark.Ampersand) (sign_if v (punct mark.Ellipsis) (spell_dollar n w)))
-    ≡ sign_nests r 1 (sign_nests v 1 (1 ∷ trace (past_param xs (param_of declared r v n)) w))
+    → trace (past_type xs declared) (symbol_if r (punct mark.Ampersand) (symbol_if v (punct mark.Ellipsis) (spell_dollar n w)))
+    ≡ nests_if r 1 (nests_if v 1 (1 ∷ trace (past_param xs (param_of declared r v n)) w))
 marks_typed xs declared true true n w = refl
 marks_typed xs declared true false n w = refl
 marks_typed xs declared false true n w = refl
 marks_typed xs declared false false n w = refl
 
 marks_untyped : (xs : Params) (r v : Bool) (n : Name Nothing) (w : List Symbol)
-    → trace (due_param xs) (sign_if r (punct mark.Ampersand) (sign_if v (punct mark.Ellipsis) (spell_dollar n w)))
-    ≡ sign_nests r 1 (sign_nests v 1 (1 ∷ trace (past_param xs (param_of None r v n)) w))
+    → trace (due_param xs) (symbol_if r (punct mark.Ampersand) (symbol_if v (punct mark.Ellipsis) (spell_dollar n w)))
+    ≡ nests_if r 1 (nests_if v 1 (1 ∷ trace (past_param xs (param_of None r v n)) w))
 marks_untyped xs true true n w = refl
 marks_untyped xs true false n w = refl
 marks_untyped xs false true n w = refl
@@ -56,8 +56,8 @@ type_trace xs false of_array w = refl
 type_trace xs false of_callable w = refl
 
 front_trace : (xs : Params) (declared : Declared) (r v : Bool) (n : Name Nothing) (w : List Symbol)
-    → trace (due_param xs) (spell_declared declared (sign_if r (punct mark.Ampersand) (sign_if v (punct mark.Ellipsis) (spell_dollar n w))))
-    ≡ declared_nests declared 1 (sign_nests r 1 (sign_nests v 1 (1 ∷ trace (past_param xs (param_of declared r v n)) w)))
+    → trace (due_param xs) (spell_declared declared (symbol_if r (punct mark.Ampersand) (symbol_if v (punct mark.Ellipsis) (spell_dollar n w))))
+    ≡ declared_nests declared 1 (nests_if r 1 (nests_if v 1 (1 ∷ trace (past_param xs (param_of declared r v n)) w)))
 front_trace xs None r v n w = marks_untyped xs r v n w
 front_trace xs (Some t) r v n w = type_trace xs t.is_nullable t.base _ ∙ ap (type_nests t 1) (marks_typed xs (Some t) r v n w)
 
@@ -82,7 +82,7 @@ value_paren xs declared r v n None w p = refl
 value_paren xs declared r v n (Some e) w p = ap (λ u. 1 ∷ u) (default_trace xs (param_of declared r v n) e (punct mark.RightParen) w _ p (at_paren e w) refl)
 
 abbrev before_value : Param Nothing → List ℕ → List ℕ
-before_value p u = declared_nests p.declared 1 (sign_nests p.is_reference 1 (sign_nests p.is_variadic 1 (1 ∷ u)))
+before_value p u = declared_nests p.declared 1 (nests_if p.is_reference 1 (nests_if p.is_variadic 1 (1 ∷ u)))
 
 param_comma : (xs : Params) (p : Param Nothing) (w : List Symbol) → IsProperParam p → trace (due_param xs) (spell_param p (punct mark.Comma ∷ w)) ≡ param_nests p 1 (1 ∷ trace (due_param (then_also xs p)) w)
 param_comma xs p w h =

@@ -7,13 +7,13 @@ use Rattle.php_ast.specs.declared.declaration.Visibility.{Visibility}
 use Rattle.php_ast.specs.Symbol.{Symbol, keyword, punct}
 use Rattle.php_ast.specs.expression.Tree as tree
 use Rattle.php_ast.specs.statement.Tree.{Sequence, empty, then_also, Name, Statements}
-use Rattle.php_ast.specs.statement.Spelling.{commas, spell_name, spell_dollar, spell_value, spell_variable, sign_if}
+use Rattle.php_ast.specs.statement.Spelling.{commas, spell_name, spell_dollar, spell_value, spell_variable, symbol_if}
 use Rattle.php_ast.specs.statement.Placed.{size_name, size_variable}
 use Rattle.php_ast.specs.declaration.Tree.{Base, of_name, of_array, of_callable, Type_of, Param, Signature, Function, Modifier, ClassWord, ClassConstant, Method, Rule, renames, prefers, Member, uses, uses_by, class_constants, method, properties, Item, of_statement, of_function, of_class, of_interface, of_trait, Script}
 use Rattle.php_ast.specs.declaration.Spelling.{joined, spell_base, spell_type, spell_declared, spell_param, spell_result, spell_signature, spell_block, spell_function, spell_modifier, spell_visibility, spell_member_name, spell_alias, spell_origin, spell_rule, spell_class_constant, spell_method_body, spell_member, spell_class_word, spell_parent, spell_names, spell_members, spell_item, spell_script}
 use Rattle.php_ast.specs.declaration.Placed.{size_joined, size_type, size_declared, size_param, size_result, size_signature, size_block, size_function, size_modifier, size_class_constant, size_method_body, size_method, size_one, size_origin, size_rule, size_member, size_class_word, size_parent, size_names, size_members, size_item, size_script}
 use Rattle.php_grammar.proofs.expression.Sizes.{spell_length}
-use Rattle.php_grammar.proofs.statement.Sizes.{separated_length, name_length, value_length, variable_length, sign_length, statement_length, statements_length}
+use Rattle.php_grammar.proofs.statement.Sizes.{separated_length, name_length, value_length, variable_length, length_if, statement_length, statements_length}
 
 joined_length : {A : Type 0} (each : A → List Symbol → List Symbol) (size_each : A → ℕ) → ((x : A) (w : List Symbol) → length (each x w) ≡ size_each x + length w)
     → (xs : Sequence A) (w : List Symbol) → length (joined each xs w) ≡ size_joined size_each xs + length w
@@ -28,7 +28,7 @@ base_length of_array w = omega arith
 base_length of_callable w = omega arith
 
 type_length : {S : Type 0} (t : Type_of S) (w : List Symbol) → length (spell_type t w) ≡ size_type t + length w
-type_length t w = omega (arith, sign_length t.is_nullable (punct mark.Question) (spell_base t.base w), base_length t.base w)
+type_length t w = omega (arith, length_if t.is_nullable (punct mark.Question) (spell_base t.base w), base_length t.base w)
 
 declared_length : {S : Type 0} (declared : Option (Type_of S)) (w : List Symbol) → length (spell_declared declared w) ≡ size_declared declared + length w
 declared_length None w = omega arith
@@ -37,12 +37,12 @@ declared_length (Some t) w = omega (arith, type_length t w)
 param_length : {S : Type 0} (p : Param S) (w : List Symbol) → length (spell_param p w) ≡ size_param p + length w
 param_length p w =
     let named : List Symbol = spell_dollar p.name (spell_value p.default w) in
-    let spread : List Symbol = sign_if p.is_variadic (punct mark.Ellipsis) named in
+    let spread : List Symbol = symbol_if p.is_variadic (punct mark.Ellipsis) named in
     omega (
       arith,
-      declared_length p.declared (sign_if p.is_reference (punct mark.Ampersand) spread),
-      sign_length p.is_reference (punct mark.Ampersand) spread,
-      sign_length p.is_variadic (punct mark.Ellipsis) named,
+      declared_length p.declared (symbol_if p.is_reference (punct mark.Ampersand) spread),
+      length_if p.is_reference (punct mark.Ampersand) spread,
+      length_if p.is_variadic (punct mark.Ellipsis) named,
       value_length p.default w,
     )
 
@@ -60,7 +60,7 @@ block_length body w = omega (arith, statements_length body (punct mark.RightBrac
 function_length : {S : Type 0} (g : Function S) (w : List Symbol) → length (spell_function g w) ≡ size_function g + length w
 function_length g w =
     let rest : List Symbol = spell_signature g.signature (spell_block g.body w) in
-    omega (arith, sign_length g.is_reference (punct mark.Ampersand) (spell_name g.name rest), signature_length g.signature (spell_block g.body w), block_length g.body w)
+    omega (arith, length_if g.is_reference (punct mark.Ampersand) (spell_name g.name rest), signature_length g.signature (spell_block g.body w), block_length g.body w)
 
 -- ---- members
 
@@ -102,8 +102,8 @@ method_length m w =
     let rest : List Symbol = spell_signature m.signature (spell_method_body m.body w) in
     omega (
       arith,
-      joined_length spell_modifier size_modifier modifier_length m.modifiers (keyword word.Function ∷ sign_if m.is_reference (punct mark.Ampersand) (spell_member_name m.name rest)),
-      sign_length m.is_reference (punct mark.Ampersand) (spell_member_name m.name rest),
+      joined_length spell_modifier size_modifier modifier_length m.modifiers (keyword word.Function ∷ symbol_if m.is_reference (punct mark.Ampersand) (spell_member_name m.name rest)),
+      length_if m.is_reference (punct mark.Ampersand) (spell_member_name m.name rest),
       signature_length m.signature (spell_method_body m.body w),
       method_body_length m.body w,
     )

@@ -5,8 +5,8 @@ use Rattle.php_token.specs.declared.kind.Punct.TheVariants as mark
 use Rattle.php_ast.specs.declared.operator.ArrayForm.TheVariants as form
 use Rattle.php_ast.specs.Symbol as symbol
 use Rattle.php_ast.specs.Symbol.{Symbol, keyword, punct}
-use Rattle.php_ast.specs.expression.Tree.{Enclosure, parentheses, emptiness, exiting, Listing, array, isset, Setting, by_value, by_reference}
-use Rattle.php_ast.specs.expression.Tree.{Tree, leaf, template, enclosed, listed, exit, exit_empty, static_member, append, index, selected, computed, call, new, new_with, prefix, counted, binary, instance, static_instance, choice, short_choice, assign, yield_nothing, yield_value, yield_pair}
+use Rattle.php_ast.specs.expression.Tree.{Enclosure, parentheses, emptiness, exiting, Listing, array, is_set, Setting, by_value, by_reference}
+use Rattle.php_ast.specs.expression.Tree.{Tree, leaf, template, enclosed, listed, exit, exit_empty, static_member, append, index, selected, computed, call, new, new_with, prefix, count, binary, instance_of, instance_of_static, choice, short_choice, assign, yield_nothing, yield_value, yield_pair}
 use Rattle.php_ast.specs.expression.Tree.{Items, none, and, skip, Lead, plain, reference, spread, keyed, keyed_reference, Pieces, no_piece, bytes, value, Class, class_name, class_static, class_found, Steps, from, step_property, step_index}
 use Rattle.php_ast.specs.expression.Spelling.{spell, spell_items, spell_lead, spell_pieces, spell_class, spell_steps, comma, opening, list_opening, list_closing, setting_symbols, arrow_symbol, member_symbol}
 use Rattle.php_ast.specs.Operators.{binary_symbol, prefix_symbol, count_symbol}
@@ -20,7 +20,7 @@ list_opening_append : (listing : Listing) (v w : List Symbol) → list_opening l
 list_opening_append (array form.Brackets) v w = refl
 list_opening_append (array form.Array) v w = refl
 list_opening_append (array form.List) v w = refl
-list_opening_append isset v w = refl
+list_opening_append is_set v w = refl
 
 setting_append : (how : Setting) (v w : List Symbol) → setting_symbols how (v ++ w) ≡ setting_symbols how v ++ w
 setting_append (by_value op) v w = refl
@@ -58,10 +58,10 @@ mutual
       ap (λ u. keyword word.New ∷ spell_class class (punct mark.LeftParen ∷ u)) (items_append items (punct mark.RightParen ∷ v) w)
       ∙ ap (λ u. keyword word.New ∷ u) (class_append class (punct mark.LeftParen ∷ spell_items items (punct mark.RightParen ∷ v)) w)
   spell_append (prefix spot op e) v w = ap (λ u. prefix_symbol op ∷ u) (spell_append e v w)
-  spell_append (counted e count) v w = spell_append e (count_symbol count ∷ v) w
+  spell_append (count e way) v w = spell_append e (count_symbol way ∷ v) w
   spell_append (binary op l r) v w = ap (λ u. spell l (binary_symbol op ∷ u)) (spell_append r v w) ∙ spell_append l (binary_symbol op ∷ spell r v) w
-  spell_append (instance l r) v w = ap (λ u. spell l (keyword word.InstanceOf ∷ u)) (spell_append r v w) ∙ spell_append l (keyword word.InstanceOf ∷ spell r v) w
-  spell_append (static_instance l spot) v w = spell_append l (keyword word.InstanceOf ∷ keyword word.Static ∷ v) w
+  spell_append (instance_of l r) v w = ap (λ u. spell l (keyword word.InstanceOf ∷ u)) (spell_append r v w) ∙ spell_append l (keyword word.InstanceOf ∷ spell r v) w
+  spell_append (instance_of_static l spot) v w = spell_append l (keyword word.InstanceOf ∷ keyword word.Static ∷ v) w
   spell_append (choice c a b) v w =
       ap (λ u. spell c (punct mark.Question ∷ spell a (punct mark.Colon ∷ u))) (spell_append b v w)
       ∙ ap (λ u. spell c (punct mark.Question ∷ u)) (spell_append a (punct mark.Colon ∷ spell b v) w)

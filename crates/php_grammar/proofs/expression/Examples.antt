@@ -8,7 +8,7 @@ use Rattle.php_ast.specs.declared.operator.Assign.TheVariants as set
 use Rattle.php_ast.specs.declared.operator.ArrayForm.TheVariants as form
 use Rattle.php_ast.specs.Symbol as symbol
 use Rattle.php_ast.specs.Symbol.{Symbol, keyword, punct}
-use Rattle.php_ast.specs.expression.Tree.{append, instance, variable, int, name, parentheses, array, thin, by_value, named, leaf, template, enclosed, listed, index, selected, call, new, new_with, prefix, binary, choice, assign, yield_value, yield_pair, yield_nothing, none, and, skip, plain, keyed, no_piece, bytes, value, class_name, class_found, from, step_property, step_index}
+use Rattle.php_ast.specs.expression.Tree.{append, instance_of, variable, int, name, parentheses, array, thin, by_value, named, leaf, template, enclosed, listed, index, selected, call, new, new_with, prefix, binary, choice, assign, yield_value, yield_pair, yield_nothing, none, and, skip, plain, keyed, no_piece, bytes, value, class_name, class_found, from, step_property, step_index}
 use Rattle.php_ast.specs.expression.Spelling.{spell}
 use Rattle.php_ast.specs.expression.Proper.{Proper}
 use Rattle.php_ast.specs.expression.Nesting.{nests}
@@ -111,7 +111,7 @@ yielded_twice : read (keyword word.Yield ∷ keyword word.Yield ∷ si 1 ∷ pun
     ≡ whole (yield_pair tt (yield_pair tt (i 1) (i 2)) (i 3))
 yielded_twice = refl
 
--- `yield;` and `(yield)`, and `yield +` begins a sign
+-- `yield;` and `(yield)`, and `yield +` begins a prefix operator
 yielded_nothing : read (keyword word.Yield ∷ punct mark.Semicolon ∷ [])
     ≡ record { tree = yield_nothing tt; missing = []; unread = punct mark.Semicolon ∷ [] }
 yielded_nothing = refl
@@ -145,7 +145,7 @@ text_with_parts = refl
 -- `$x instanceof f()` stops behind the call, and lacks a suffix there
 class_by_call : read (sv 120 ∷ keyword word.InstanceOf ∷ sf ∷ punct mark.LeftParen ∷ punct mark.RightParen ∷ punct mark.Semicolon ∷ [])
     ≡ record {
-      tree = instance (v 120) (append (call f none));
+      tree = instance_of (v 120) (append (call f none));
       missing = punct mark.LeftBracket ∷ punct mark.RightBracket ∷ [];
       unread = punct mark.Semicolon ∷ [];
     }

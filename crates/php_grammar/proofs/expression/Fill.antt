@@ -5,11 +5,11 @@ use Rattle.php_ast.specs.declared.operator.Binary.TheVariants as binary_op
 use Rattle.php_ast.specs.declared.operator.Prefix.{Prefix}
 use Rattle.php_ast.specs.declared.operator.Prefix.TheVariants as prefix_op
 use Rattle.php_ast.specs.Symbol.{Symbol}
-use Rattle.php_ast.specs.expression.Tree.{array, isset, Items, and, Lead, plain, reference, spread, keyed, keyed_reference}
+use Rattle.php_ast.specs.expression.Tree.{array, is_set, Items, and, Lead, plain, reference, spread, keyed, keyed_reference}
 use Rattle.php_ast.specs.expression.Spelling.{spell, spell_items}
 use Rattle.php_ast.specs.Power.{binary_row, prefix_power}
 use Rattle.php_ast.specs.expression.Proper.{free, top, right, edge, power, ends, ends_bare, is_call, Proper, AreProperItems}
-use Rattle.php_grammar.specs.expression.Machine.{Nothing, Form, Holder, of_call, of_new, of_list, OpenForm, enclosed_open, items_open, index_open, computed_open, step_open, part_open, then_open, else_open, short_open, prefix_open, binary_open, instance_open, assign_open, yield_open, yield_value_open, OpenForms, least_power_at, least_power, closed_with, holder_closing, completed, closing_part, is_call_at, seated, seat_end, completed_all, missing_end, holder_front, opening_part, opening_parts}
+use Rattle.php_grammar.specs.expression.Machine.{Nothing, Form, Holder, of_call, of_new, of_list, OpenForm, enclosed_open, items_open, index_open, computed_open, step_open, part_open, then_open, else_open, short_open, prefix_open, binary_open, instance_of_open, assign_open, yield_open, yield_value_open, OpenForms, least_power_at, least_power, closed_with, holder_closing, completed, closing_part, is_call_at, seated, seat_end, completed_all, missing_end, holder_front, opening_part, opening_parts}
 use Rattle.php_grammar.proofs.expression.Sound.{SoundHolder, SoundList, SoundEnd, SoundLead, IsSoundAt, power_in, IsSound, Seats, IsFitting, Closed}
 
 -- ---- bounds of the table
@@ -35,7 +35,7 @@ least_power_bound (else_open c a ∷ s) = inl (omega arith)
 least_power_bound (short_open c ∷ s) = inl (omega arith)
 least_power_bound (prefix_open op ∷ s) = inl (omega (arith, prefix_bound op))
 least_power_bound (binary_open op l ∷ s) = inl (omega (arith, (binary_bound op).1))
-least_power_bound (instance_open l ∷ s) = inr refl
+least_power_bound (instance_of_open l ∷ s) = inr refl
 least_power_bound (assign_open how l ∷ s) = inl (omega arith)
 least_power_bound (yield_open ∷ s) = inl (omega arith)
 least_power_bound (yield_value_open k ∷ s) = inl (omega arith)
@@ -64,17 +64,17 @@ list_more (of_list (array form)) items spread e s l = absurd l
 list_more (of_list (array form)) items reference e s l = s
 list_more (of_list (array form)) items (keyed k) e s l = s
 list_more (of_list (array form)) items (keyed_reference k) e s l = s
-list_more (of_list isset) items plain e s l = s
-list_more (of_list isset) items spread e s l = absurd l
-list_more (of_list isset) items reference e s l = absurd l
-list_more (of_list isset) items (keyed k) e s l = absurd l
-list_more (of_list isset) items (keyed_reference k) e s l = absurd l
+list_more (of_list is_set) items plain e s l = s
+list_more (of_list is_set) items spread e s l = absurd l
+list_more (of_list is_set) items reference e s l = absurd l
+list_more (of_list is_set) items (keyed k) e s l = absurd l
+list_more (of_list is_set) items (keyed_reference k) e s l = absurd l
 
 pub list_end : (h : Holder) (items : Items Nothing) (lead : Lead Nothing) (e : Form) → SoundList h (and items lead e) → SoundEnd h (and items lead e)
 list_end (of_call f) items lead e s = s
 list_end (of_new class) items lead e s = s
 list_end (of_list (array form)) items lead e s = (s, refl)
-list_end (of_list isset) items lead e s = (s, refl)
+list_end (of_list is_set) items lead e s = (s, refl)
 
 pub closed_proper : (h : Holder) (items : Items Nothing) → SoundHolder h → SoundEnd h items → AreProperItems items → Proper (closed_with h items)
 closed_proper (of_call f) items a b p = (a.0, a.1, b, p)
@@ -111,7 +111,7 @@ completed_spells (else_open c a) e w = refl
 completed_spells (short_open c) e w = refl
 completed_spells (prefix_open op) e w = refl
 completed_spells (binary_open op l) e w = refl
-completed_spells (instance_open l) e w = refl
+completed_spells (instance_of_open l) e w = refl
 completed_spells (assign_open how l) e w = refl
 completed_spells yield_open e w = refl
 completed_spells (yield_value_open k) e w = refl
@@ -128,7 +128,7 @@ completed_power (else_open c a) e = refl
 completed_power (short_open c) e = refl
 completed_power (prefix_open op) e = refl
 completed_power (binary_open op l) e = refl
-completed_power (instance_open l) e = refl
+completed_power (instance_of_open l) e = refl
 completed_power (assign_open how l) e = refl
 completed_power yield_open e = refl
 completed_power (yield_value_open k) e = refl
@@ -154,7 +154,7 @@ completed_proper (else_open c x) s e a near p seats b = (a.0, a.1, near, a.2, a.
 completed_proper (short_open c) s e a near p seats b = (a.0, near, a.1, p)
 completed_proper (prefix_open op) s e a near p seats b = (omega arith, p)
 completed_proper (binary_open op l) s e a near p seats b = (a.0, near, a.1, p)
-completed_proper (instance_open l) s e a near p seats b = (a.0, omega arith, seats, a.1, p)
+completed_proper (instance_of_open l) s e a near p seats b = (a.0, omega arith, seats, a.1, p)
 completed_proper (assign_open how l) s e a near p seats b = (a.0, near, a.1, p)
 completed_proper yield_open s e a near p seats b = (omega arith, p)
 completed_proper (yield_value_open k) s e a near p seats b = (a.0, a.1, omega arith, a.2, p)
@@ -175,7 +175,7 @@ call_seat (else_open c a) e h = refl
 call_seat (short_open c) e h = refl
 call_seat (prefix_open op) e h = refl
 call_seat (binary_open op l) e h = refl
-call_seat (instance_open l) e h = refl
+call_seat (instance_of_open l) e h = refl
 call_seat (assign_open how l) e h = refl
 call_seat yield_open e h = refl
 call_seat (yield_value_open k) e h = refl
@@ -194,7 +194,7 @@ call_ends (else_open c a) e h = cc
 call_ends (short_open c) e h = cc
 call_ends (prefix_open op) e h = cc
 call_ends (binary_open op l) e h = cc
-call_ends (instance_open l) e h = cc
+call_ends (instance_of_open l) e h = cc
 call_ends (assign_open how l) e h = cc
 call_ends yield_open e h = cc
 call_ends (yield_value_open k) e h = cc
@@ -222,17 +222,17 @@ completed_bare (computed_open a) e b = refl
 completed_bare (step_open steps) e b = refl
 completed_bare (part_open pieces) e b = refl
 completed_bare (then_open c) e b = refl
-completed_bare (instance_open l) e b = refl
+completed_bare (instance_of_open l) e b = refl
 completed_bare _ e b = b
 
 seat_true : (s : OpenForms) (x : Form) → ends x ≡ top → Proper x → least_power s ≤ power x → IsSound s → IsFitting (seated true s x) s
 seat_true [] x e p near sound = record { proper = p; near = near; sound = sound; seats = tt }
-seat_true (instance_open l ∷ s) x e p near sound = record { proper = (omega (arith, e), p); near = omega arith; sound = sound; seats = refl }
+seat_true (instance_of_open l ∷ s) x e p near sound = record { proper = (omega (arith, e), p); near = omega arith; sound = sound; seats = refl }
 seat_true (f ∷ s) x e p near sound = record { proper = p; near = near; sound = sound; seats = tt }
 
 pub seats_by : (s : OpenForms) (x : Form) → is_call x ≡ false → Seats x s
 seats_by [] x e = tt
-seats_by (instance_open l ∷ s) x e = e
+seats_by (instance_of_open l ∷ s) x e = e
 seats_by (f ∷ s) x e = tt
 
 seat_if : (b : Bool) (f : OpenForm) (s : OpenForms) (e : Form) → is_call_at f ≡ b → Proper (completed f e) → least_power s ≤ power (completed f e) → IsSound s → IsFitting (seated b s (completed f e)) s
@@ -247,13 +247,13 @@ seated_fits f s e h b =
 seated_spells : (b : Bool) (s : OpenForms) (x : Form) (w : List Symbol) → spell (seated b s x) w ≡ spell x (seat_end b s w)
 seated_spells false s x w = refl
 seated_spells true [] x w = refl
-seated_spells true (instance_open l ∷ s) x w = refl
+seated_spells true (instance_of_open l ∷ s) x w = refl
 seated_spells true (f ∷ s) x w = refl
 
 seated_bare : (b : Bool) (s : OpenForms) (x : Form) → ends_bare x ≡ false → ends_bare (seated b s x) ≡ false
 seated_bare false s x h = h
 seated_bare true [] x h = h
-seated_bare true (instance_open l ∷ s) x h = refl
+seated_bare true (instance_of_open l ∷ s) x h = refl
 seated_bare true (f ∷ s) x h = h
 
 pub completed_all_spells : (s : OpenForms) (e : Form) → spell (completed_all s e) [] ≡ opening_parts s (spell e (missing_end s))
@@ -284,7 +284,7 @@ lacks_none (binary_open op l) w h = (omega (arith, right_some op), h)
     right_some : (op : Binary) → 0 < right (binary_row op)
     right_some binary_op.Power = omega arith
     right_some _ = omega arith
-lacks_none (instance_open l) w h = (omega arith, h)
+lacks_none (instance_of_open l) w h = (omega arith, h)
 lacks_none (assign_open how l) w h = (omega arith, h)
 lacks_none yield_open w h = (omega arith, h)
 lacks_none (yield_value_open k) w h = (omega arith, h)

@@ -12,8 +12,8 @@ use Rattle.php_ast.specs.declared.operator.Magic.TheVariants as magic_word
 use Rattle.php_ast.specs.declared.operator.ArrayForm.TheVariants as form
 use Rattle.php_ast.specs.Symbol as symbol
 use Rattle.php_ast.specs.Symbol.{Symbol, keyword, punct, cast}
-use Rattle.php_ast.specs.expression.Tree.{variable, int, string, name, magic, parentheses, emptiness, exiting, array, isset, thin, colons, by_value, by_reference, named, reserved, held}
-use Rattle.php_ast.specs.expression.Tree.{leaf, template, enclosed, listed, exit, exit_empty, static_member, append, index, selected, computed, call, new, new_with, prefix, counted, binary, instance, static_instance, choice, short_choice, assign, yield_nothing, yield_value, yield_pair}
+use Rattle.php_ast.specs.expression.Tree.{variable, int, string, name, magic, parentheses, emptiness, exiting, array, is_set, thin, colons, by_value, by_reference, named, reserved, held}
+use Rattle.php_ast.specs.expression.Tree.{leaf, template, enclosed, listed, exit, exit_empty, static_member, append, index, selected, computed, call, new, new_with, prefix, count, binary, instance_of, instance_of_static, choice, short_choice, assign, yield_nothing, yield_value, yield_pair}
 use Rattle.php_ast.specs.expression.Tree.{none, and, skip, plain, reference, spread, keyed_reference, no_piece, bytes, value, class_name, class_static, class_found, from, step_property, step_index}
 use Rattle.php_ast.specs.expression.Spelling.{spell}
 use Rattle.php_ast.specs.expression.Nesting.{nests}
@@ -93,9 +93,9 @@ form_exit_called : IsExample (call (exit_empty tt) none)
 form_exit_called = (refl, refl, refl, refl)
 
 -- `isset($a, $b)`
-form_isset : IsExample (listed tt isset (and (and none plain (v 97)) plain (v 98)))
+form_is_set : IsExample (listed tt is_set (and (and none plain (v 97)) plain (v 98)))
     (keyword word.IsSet ∷ punct mark.LeftParen ∷ sv 97 ∷ punct mark.Comma ∷ sv 98 ∷ punct mark.RightParen ∷ []) (0 ∷ 0 ∷ 1 ∷ 1 ∷ 1 ∷ 1 ∷ [])
-form_isset = (refl, refl, refl, refl)
+form_is_set = (refl, refl, refl, refl)
 
 -- `[]`, `[1, &$a, 2 => &$b]`, `array(1,)`, `list($a, , $b)`
 form_no_items : IsExample (listed tt (array form.Brackets) none) (punct mark.LeftBracket ∷ punct mark.RightBracket ∷ []) (0 ∷ 1 ∷ [])
@@ -196,12 +196,12 @@ form_yield_from : IsExample (prefix tt pre.YieldFrom (v 97)) (keyword word.Yield
 form_yield_from = (refl, refl, refl, refl)
 
 -- `$a++`, and `$a++ [` stops: a suffix stands behind an operand alone
-form_counted : IsExample (counted (v 97) count.Up) (sv 97 ∷ punct mark.PlusPlus ∷ []) (0 ∷ 0 ∷ [])
-form_counted = (refl, refl, refl, refl)
+form_count : IsExample (count (v 97) count.Up) (sv 97 ∷ punct mark.PlusPlus ∷ []) (0 ∷ 0 ∷ [])
+form_count = (refl, refl, refl, refl)
 
-counted_stops : read (sv 97 ∷ punct mark.MinusMinus ∷ punct mark.LeftBracket ∷ [])
-    ≡ record { tree = counted (v 97) count.Down; missing = []; unread = punct mark.LeftBracket ∷ [] }
-counted_stops = refl
+count_stops : read (sv 97 ∷ punct mark.MinusMinus ∷ punct mark.LeftBracket ∷ [])
+    ≡ record { tree = count (v 97) count.Down; missing = []; unread = punct mark.LeftBracket ∷ [] }
+count_stops = refl
 
 -- ---- operators
 
@@ -224,11 +224,11 @@ form_coalesced : IsExample (binary op.Coalesced (v 97) (binary op.Coalesced (v 9
 form_coalesced = (refl, refl, refl, refl)
 
 -- `$a instanceof f`, `$a instanceof static`
-form_instance : IsExample (instance (v 97) f) (sv 97 ∷ keyword word.InstanceOf ∷ sf ∷ []) (0 ∷ 0 ∷ 0 ∷ [])
-form_instance = (refl, refl, refl, refl)
+form_instance_of : IsExample (instance_of (v 97) f) (sv 97 ∷ keyword word.InstanceOf ∷ sf ∷ []) (0 ∷ 0 ∷ 0 ∷ [])
+form_instance_of = (refl, refl, refl, refl)
 
-form_static_instance : IsExample (static_instance (v 97) tt) (sv 97 ∷ keyword word.InstanceOf ∷ keyword word.Static ∷ []) (0 ∷ 0 ∷ 0 ∷ [])
-form_static_instance = (refl, refl, refl, refl)
+form_instance_of_static : IsExample (instance_of_static (v 97) tt) (sv 97 ∷ keyword word.InstanceOf ∷ keyword word.Static ∷ []) (0 ∷ 0 ∷ 0 ∷ [])
+form_instance_of_static = (refl, refl, refl, refl)
 
 -- `$a ? 1 : 2 ? 3 : 4` groups to the left, and `$a ?: 1`
 form_choices : IsExample (choice (choice (v 97) (i 1) (i 2)) (i 3) (i 4))

@@ -8,8 +8,8 @@ use Rattle.php_ast.specs.expression.View.{Note}
 use Rattle.php_ast.specs.expression.Placed.{noted, no_notes, form_of, notes_of}
 use Rattle.php_ast.specs.expression.Spelling.{spell}
 use Rattle.php_ast.specs.expression.Proper.{Proper}
-use Rattle.php_grammar.specs.expression.Sign.{Continuation, draws, closes, neither, continuation, strength_of}
-use Rattle.php_grammar.specs.expression.Machine.{Form, instance_open, OpenForms, State, expects, holds, holds_call, due_enclosed, due_listed, past_static, past_yield, missing_end, goes_on, advance, halt_static, is_last, halt_yield, halt, or_halt, read_from, read}
+use Rattle.php_grammar.specs.expression.Role.{Continuation, draws, closes, neither, continuation, strength_of}
+use Rattle.php_grammar.specs.expression.Machine.{Form, instance_of_open, OpenForms, State, expects, holds, holds_call, due_enclosed, due_listed, past_static, past_yield, missing_end, goes_on, advance, halt_static, is_last, halt_yield, halt, or_halt, read_from, read}
 use Rattle.php_grammar.specs.expression.Laws.{Spells, BeginsExpression, BeginsWith, EndsBefore, head_continuation, IsSpelled}
 use Rattle.php_grammar.proofs.expression.Soundness.{BeginsFrom, reading_begins_from}
 use Rattle.php_grammar.proofs.expression.Trees.{ends_positive}
@@ -75,7 +75,7 @@ unfinished w v e h ends lacks =
 
 static_left : (s : OpenForms) (w : List Symbol) → (halt_static s w).unread ≡ w
 static_left [] w = refl
-static_left (instance_open l ∷ s) w = refl
+static_left (instance_of_open l ∷ s) w = refl
 static_left (f ∷ s) w = refl
 
 yield_left : (b : Bool) (s : OpenForms) (w : List Symbol) → (halt_yield b s w).unread ≡ w

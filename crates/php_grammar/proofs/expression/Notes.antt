@@ -1,7 +1,7 @@
 -- The notes of a tree depend on its form and its place alone.
 use Rattle.std.proofs.Common.{◌≡◌, ℕ, ◌+◌, refl, ◌∙◌, ap, arith}
 use Rattle.php_ast.specs.expression.Tree.{Member, named, reserved, held}
-use Rattle.php_ast.specs.expression.Tree.{Tree, leaf, template, enclosed, listed, exit, exit_empty, static_member, append, index, selected, computed, call, new, new_with, prefix, counted, binary, instance, static_instance, choice, short_choice, assign, yield_nothing, yield_value, yield_pair}
+use Rattle.php_ast.specs.expression.Tree.{Tree, leaf, template, enclosed, listed, exit, exit_empty, static_member, append, index, selected, computed, call, new, new_with, prefix, count, binary, instance_of, instance_of_static, choice, short_choice, assign, yield_nothing, yield_value, yield_pair}
 use Rattle.php_ast.specs.expression.Tree.{Items, none, and, skip, Lead, plain, reference, spread, keyed, keyed_reference, Pieces, no_piece, bytes, value, Class, class_name, class_static, class_found, Steps, from, step_property, step_index}
 use Rattle.php_ast.specs.expression.Placed.{opening_size, list_opening_size, setting_size, comma_size, size, size_items, size_lead, size_pieces, size_class, size_steps, Notes, noted_member, noted, noted_items, noted_lead, noted_pieces, noted_class, noted_steps}
 
@@ -29,10 +29,10 @@ mutual
   size_noted f at (new spot class) = omega (arith, class_noted f (at + 1) class)
   size_noted f at (new_with spot class items) = omega (arith, class_noted f (at + 1) class, items_noted f (at + 1 + size_class class + 1) items)
   size_noted f at (prefix spot op e) = omega (arith, size_noted f (at + 1) e)
-  size_noted f at (counted e count) = omega (arith, size_noted f at e)
+  size_noted f at (count e way) = omega (arith, size_noted f at e)
   size_noted f at (binary op l r) = omega (arith, size_noted f at l, size_noted f (at + size l + 1) r)
-  size_noted f at (instance l r) = omega (arith, size_noted f at l, size_noted f (at + size l + 1) r)
-  size_noted f at (static_instance l spot) = omega (arith, size_noted f at l)
+  size_noted f at (instance_of l r) = omega (arith, size_noted f at l, size_noted f (at + size l + 1) r)
+  size_noted f at (instance_of_static l spot) = omega (arith, size_noted f at l)
   size_noted f at (choice c a b) =
       omega (arith, size_noted f at c, size_noted f (at + size c + 1) a, size_noted f (at + size c + 1 + size a + 1) b)
   size_noted f at (short_choice c b) = omega (arith, size_noted f at c, size_noted f (at + size c + 2) b)
@@ -116,18 +116,18 @@ mutual
       ∙ ap (λ x. new_with (g.token at) x (noted_items g (at + 1 + size_class class + 1) (noted_items f (i + 1 + size_class class + 1) items))) (class_again f g (i + 1) (at + 1) class)
       ∙ ap (new_with (g.token at) (noted_class g (at + 1) class)) (items_again f g (i + 1 + size_class class + 1) (at + 1 + size_class class + 1) items)
   again f g i at (prefix spot op e) = ap (prefix (g.token at) op) (again f g (i + 1) (at + 1) e)
-  again f g i at (counted e count) = ap (λ x. counted x count) (again f g i at e)
+  again f g i at (count e way) = ap (λ x. count x way) (again f g i at e)
   again f g i at (binary op l r) =
       ap (λ n. binary op (noted g at (noted f i l)) (noted g (at + n + 1) (noted f (i + size l + 1) r))) (size_noted f i l)
       ∙ ap (λ x. binary op x (noted g (at + size l + 1) (noted f (i + size l + 1) r))) (again f g i at l)
       ∙ ap (binary op (noted g at l)) (again f g (i + size l + 1) (at + size l + 1) r)
-  again f g i at (instance l r) =
-      ap (λ n. instance (noted g at (noted f i l)) (noted g (at + n + 1) (noted f (i + size l + 1) r))) (size_noted f i l)
-      ∙ ap (λ x. instance x (noted g (at + size l + 1) (noted f (i + size l + 1) r))) (again f g i at l)
-      ∙ ap (instance (noted g at l)) (again f g (i + size l + 1) (at + size l + 1) r)
-  again f g i at (static_instance l spot) =
-      ap (λ n. static_instance (noted g at (noted f i l)) (g.token (at + n + 1))) (size_noted f i l)
-      ∙ ap (λ x. static_instance x (g.token (at + size l + 1))) (again f g i at l)
+  again f g i at (instance_of l r) =
+      ap (λ n. instance_of (noted g at (noted f i l)) (noted g (at + n + 1) (noted f (i + size l + 1) r))) (size_noted f i l)
+      ∙ ap (λ x. instance_of x (noted g (at + size l + 1) (noted f (i + size l + 1) r))) (again f g i at l)
+      ∙ ap (instance_of (noted g at l)) (again f g (i + size l + 1) (at + size l + 1) r)
+  again f g i at (instance_of_static l spot) =
+      ap (λ n. instance_of_static (noted g at (noted f i l)) (g.token (at + n + 1))) (size_noted f i l)
+      ∙ ap (λ x. instance_of_static x (g.token (at + size l + 1))) (again f g i at l)
   again f g i at (choice c a b) =
       ap (λ n. choice (noted g at (noted f i c)) (noted g (at + n + 1) (noted f (i + size c + 1) a))
       (noted g (at + n + 1 + size (noted f (i + size c + 1) a) + 1) (noted f (i + size c + 1 + size a + 1) b))) (size_noted f i c)

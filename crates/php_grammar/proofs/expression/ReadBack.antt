@@ -10,15 +10,15 @@ use Rattle.php_ast.specs.declared.operator.Assign.TheVariants as setting
 use Rattle.php_ast.specs.declared.operator.ArrayForm.TheVariants as form
 use Rattle.php_ast.specs.Symbol as symbol
 use Rattle.php_ast.specs.Symbol.{Symbol, keyword, punct}
-use Rattle.php_ast.specs.expression.Tree.{parentheses, emptiness, exiting, array, isset, Arrow, thin, by_value, by_reference, Member}
-use Rattle.php_ast.specs.expression.Tree.{leaf, template, enclosed, listed, exit, exit_empty, static_member, append, index, selected, computed, call, new, new_with, prefix, counted, binary, instance, static_instance, choice, short_choice, assign, yield_nothing, yield_value, yield_pair}
+use Rattle.php_ast.specs.expression.Tree.{parentheses, emptiness, exiting, array, is_set, Arrow, thin, by_value, by_reference, Member}
+use Rattle.php_ast.specs.expression.Tree.{leaf, template, enclosed, listed, exit, exit_empty, static_member, append, index, selected, computed, call, new, new_with, prefix, count, binary, instance_of, instance_of_static, choice, short_choice, assign, yield_nothing, yield_value, yield_pair}
 use Rattle.php_ast.specs.expression.Tree.{Items, none, and, skip, Lead, plain, reference, spread, keyed, keyed_reference, Pieces, no_piece, bytes, value, Class, class_name, class_static, class_found, Steps, from, step_property, step_index}
 use Rattle.php_ast.specs.expression.Spelling.{spell, spell_items, spell_lead, spell_pieces, spell_class, spell_steps, comma, member_symbol}
-use Rattle.php_ast.specs.Power.{binary_row, choice_row, instance_row}
+use Rattle.php_ast.specs.Power.{binary_row, choice_row, instance_of_row}
 use Rattle.php_ast.specs.expression.Proper.{free, power, ends, takes_arrow, ends_bare, IsWord, IsMemberName, Proper, AreProperItems, IsProperLead, AreProperPieces, IsProperClass, AreProperSteps, HasSuffix, IsCallable}
-use Rattle.php_grammar.specs.expression.Sign.{Draw, joins, checks, chooses, sets, counts, applies, subscripts, selects, continuation, draw_strength, strength_of, is_arrow, ends_yield}
-use Rattle.php_grammar.specs.expression.Machine.{Nothing, Form, Holder, of_call, of_new, of_list, OpenForm, enclosed_open, items_open, index_open, computed_open, step_open, part_open, then_open, else_open, short_open, prefix_open, binary_open, instance_open, assign_open, yield_open, yield_value_open, OpenForms, State, expects, holds, past_items, past_value, past_static_colons, past_template, past_arrow, past_new, past_class, past_step, past_yield, least_power_at, least_power, ends_at, completed, seat_end, missing_end, closing_part, closed_with, holder_closing, is_array, after_by, after, assigning, goes_on, pick, start, halt_whole, halt_yield, is_last, or_halt, read_from}
-use Rattle.php_grammar.proofs.expression.Signs.{draw_symbol, continuation_draw}
+use Rattle.php_grammar.specs.expression.Role.{Draw, by_binary, by_instance_of, by_choice, by_assign, by_count, by_call, by_index, by_select, continuation, draw_strength, strength_of, is_arrow, ends_yield}
+use Rattle.php_grammar.specs.expression.Machine.{Nothing, Form, Holder, of_call, of_new, of_list, OpenForm, enclosed_open, items_open, index_open, computed_open, step_open, part_open, then_open, else_open, short_open, prefix_open, binary_open, instance_of_open, assign_open, yield_open, yield_value_open, OpenForms, State, expects, holds, past_items, past_value, past_static_colons, past_template, past_arrow, past_new, past_class, past_step, past_yield, least_power_at, least_power, ends_at, completed, seat_end, missing_end, closing_part, closed_with, holder_closing, is_array, after_by, after, assigning, goes_on, pick, start, halt_whole, halt_yield, is_last, or_halt, read_from}
+use Rattle.php_grammar.proofs.expression.Roles.{draw_symbol, continuation_draw}
 use Rattle.php_grammar.proofs.expression.Sound.{SoundList, SoundEnd, SoundLead}
 use Rattle.php_grammar.proofs.expression.Fill.{binary_bound, edge_bounds, prefix_bound, least_power_most, without_end, without_end_call}
 use Rattle.php_grammar.proofs.expression.Trees.{ends_positive, bare_ends, power_of_left, IsOpen, open_by_ends, operand_ends, Starts, starts}
@@ -41,18 +41,18 @@ pub record Follows (e : Form) (s : OpenForms) (w : List Symbol) : Type 0 where
   pub bare : ends_bare e ≡ true → StandsBare e s w
 
 pub draw_some : (d : Draw) → 2 ≤ draw_strength d
-draw_some (joins op) = some_power op
+draw_some (by_binary op) = some_power op
   where
     some_power : (op : Binary) → 2 ≤ (binary_row op).power
     some_power binary_op.Power = omega arith
     some_power _ = omega arith
-draw_some checks = omega arith
-draw_some chooses = omega arith
-draw_some (sets op) = omega arith
-draw_some (counts c) = omega arith
-draw_some applies = omega arith
-draw_some subscripts = omega arith
-draw_some (selects arrow) = omega arith
+draw_some by_instance_of = omega arith
+draw_some by_choice = omega arith
+draw_some (by_assign op) = omega arith
+draw_some (by_count c) = omega arith
+draw_some by_call = omega arith
+draw_some by_index = omega arith
+draw_some (by_select arrow) = omega arith
 
 -- what goes on with the tree itself
 pub follows_draw : (d : Draw) (e : Form) (s : OpenForms) (w : List Symbol) → draw_strength d < ends e → Follows e s (draw_symbol d ∷ w)
@@ -166,17 +166,17 @@ list_lead (of_list (array form)) items spread e s = absurd s
 list_lead (of_list (array form)) items reference e s = (s, tt)
 list_lead (of_list (array form)) items (keyed k) e s = (s, tt)
 list_lead (of_list (array form)) items (keyed_reference k) e s = (s, tt)
-list_lead (of_list isset) items plain e s = (s, tt)
-list_lead (of_list isset) items spread e s = absurd s
-list_lead (of_list isset) items reference e s = absurd s
-list_lead (of_list isset) items (keyed k) e s = absurd s
-list_lead (of_list isset) items (keyed_reference k) e s = absurd s
+list_lead (of_list is_set) items plain e s = (s, tt)
+list_lead (of_list is_set) items spread e s = absurd s
+list_lead (of_list is_set) items reference e s = absurd s
+list_lead (of_list is_set) items (keyed k) e s = absurd s
+list_lead (of_list is_set) items (keyed_reference k) e s = absurd s
 
 pub list_skip : (h : Holder) (items : Items Nothing) → SoundList h (skip items) → (is_array h ≡ true) × SoundList h items
 list_skip (of_call f) items s = absurd s
 list_skip (of_new class) items s = absurd s
 list_skip (of_list (array form)) items s = (refl, s)
-list_skip (of_list isset) items s = absurd s
+list_skip (of_list is_set) items s = absurd s
 
 pub follows_close : (h : Holder) (items : Items Nothing) (lead : Lead Nothing) (s : OpenForms) (e : Form) (w : List Symbol) → Follows e (items_open h items lead ∷ s) (holder_closing h ∷ w)
 follows_close (of_call f) items lead s e w = follows_paren (items_open (of_call f) items lead) s e w tt
@@ -184,7 +184,7 @@ follows_close (of_new class) items lead s e w = follows_paren (items_open (of_ne
 follows_close (of_list (array form.Brackets)) items lead s e w = follows_bracket (items_open (of_list (array form.Brackets)) items lead) s e w tt
 follows_close (of_list (array form.Array)) items lead s e w = follows_paren (items_open (of_list (array form.Array)) items lead) s e w tt
 follows_close (of_list (array form.List)) items lead s e w = follows_paren (items_open (of_list (array form.List)) items lead) s e w tt
-follows_close (of_list isset) items lead s e w = follows_paren (items_open (of_list isset) items lead) s e w tt
+follows_close (of_list is_set) items lead s e w = follows_paren (items_open (of_list is_set) items lead) s e w tt
 
 none_closed : (h : Holder) (s : OpenForms) (w : List Symbol) → SoundEnd h none → read_from (past_items h none s) (holder_closing h ∷ w) ≡ read_from (after (closed_with h none) s) w
 none_closed (of_call f) s w h = refl
@@ -192,7 +192,7 @@ none_closed (of_new class) s w h = refl
 none_closed (of_list (array form.Brackets)) s w h = refl
 none_closed (of_list (array form.Array)) s w h = refl
 none_closed (of_list (array form.List)) s w h = refl
-none_closed (of_list isset) s w h = let e : true ≡ false = h.1 in cc
+none_closed (of_list is_set) s w h = let e : true ≡ false = h.1 in cc
 
 item_closed : (h : Holder) (items : Items Nothing) (lead : Lead Nothing) (e : Form) (s : OpenForms) (w : List Symbol)
     → read_from (holds e (items_open h items lead ∷ s)) (holder_closing h ∷ w) ≡ read_from (after (closed_with h (and items lead e)) s) w
@@ -201,7 +201,7 @@ item_closed (of_new class) items lead e s w = refl
 item_closed (of_list (array form.Brackets)) items lead e s w = refl
 item_closed (of_list (array form.Array)) items lead e s w = refl
 item_closed (of_list (array form.List)) items lead e s w = refl
-item_closed (of_list isset) items lead e s w = refl
+item_closed (of_list is_set) items lead e s w = refl
 
 skip_closed : (h : Holder) (items : Items Nothing) (s : OpenForms) (w : List Symbol) → SoundList h (skip items) → SoundEnd h (skip items)
     → read_from (past_items h items s) (holder_closing h ∷ w) ≡ read_from (after (closed_with h (skip items)) s) w
@@ -214,40 +214,40 @@ skip_closed (of_list (array form.Array)) (and items lead e) s w l h = refl
 skip_closed (of_list (array form.Array)) (skip items) s w l h = refl
 skip_closed (of_list (array form.List)) (and items lead e) s w l h = refl
 skip_closed (of_list (array form.List)) (skip items) s w l h = refl
-skip_closed (of_list isset) items s w l h = absurd l
+skip_closed (of_list is_set) items s w l h = absurd l
 
 skip_on : (h : Holder) (items : Items Nothing) (s : OpenForms) (w : List Symbol) → is_array h ≡ true → read_from (past_items h items s) (punct mark.Comma ∷ w) ≡ read_from (past_items h (skip items) s) w
 skip_on (of_call f) items s w h = cc
 skip_on (of_new class) items s w h = cc
 skip_on (of_list (array form)) items s w h = refl
-skip_on (of_list isset) items s w h = cc
+skip_on (of_list is_set) items s w h = cc
 
 reference_on : (h : Holder) (items : Items Nothing) (s : OpenForms) (w : List Symbol) → SoundLead h reference
     → read_from (past_items h items s) (punct mark.Ampersand ∷ w) ≡ read_from (expects (items_open h items reference ∷ s)) w
 reference_on (of_call f) items s w h = absurd h
 reference_on (of_new class) items s w h = absurd h
 reference_on (of_list (array form)) items s w h = refl
-reference_on (of_list isset) items s w h = absurd h
+reference_on (of_list is_set) items s w h = absurd h
 
 spread_on : (h : Holder) (items : Items Nothing) (s : OpenForms) (w : List Symbol) → SoundLead h spread
     → read_from (past_items h items s) (punct mark.Ellipsis ∷ w) ≡ read_from (expects (items_open h items spread ∷ s)) w
 spread_on (of_call f) items s w h = refl
 spread_on (of_new class) items s w h = refl
 spread_on (of_list (array form)) items s w h = absurd h
-spread_on (of_list isset) items s w h = absurd h
+spread_on (of_list is_set) items s w h = absurd h
 
 pub keyed_array : (h : Holder) (k : Form) → SoundLead h (keyed k) ⊎ SoundLead h (keyed_reference k) → is_array h ≡ true
 keyed_array (of_call f) k h = elim h [ inl x ↦ absurd x | inr x ↦ absurd x ]
 keyed_array (of_new class) k h = elim h [ inl x ↦ absurd x | inr x ↦ absurd x ]
 keyed_array (of_list (array form)) k h = refl
-keyed_array (of_list isset) k h = elim h [ inl x ↦ absurd x | inr x ↦ absurd x ]
+keyed_array (of_list is_set) k h = elim h [ inl x ↦ absurd x | inr x ↦ absurd x ]
 
 key_on : (h : Holder) (items : Items Nothing) (k : Form) (s : OpenForms) (w : List Symbol) → is_array h ≡ true
     → read_from (holds k (items_open h items plain ∷ s)) (punct mark.DoubleArrow ∷ w) ≡ read_from (past_value h items k s) w
 key_on (of_call f) items k s w h = cc
 key_on (of_new class) items k s w h = cc
 key_on (of_list (array form)) items k s w h = refl
-key_on (of_list isset) items k s w h = cc
+key_on (of_list is_set) items k s w h = cc
 
 -- ---- the whole
 
@@ -284,34 +284,34 @@ mutual
   spelling_read (listed spot (array form.Brackets) items) s w p near h = list_back (of_list (array form.Brackets)) items s w p.0.0 p.0 p.1
   spelling_read (listed spot (array form.Array) items) s w p near h = list_back (of_list (array form.Array)) items s w p.0.0 p.0 p.1
   spelling_read (listed spot (array form.List) items) s w p near h = list_back (of_list (array form.List)) items s w p.0.0 p.0 p.1
-  spelling_read (listed spot isset items) s w p near h = list_back (of_list isset) items s w p.0.0 p.0 p.1
+  spelling_read (listed spot is_set items) s w p near h = list_back (of_list is_set) items s w p.0.0 p.0 p.1
   spelling_read (exit spot) s w p near h = exit_done s w h.low
   spelling_read (exit_empty spot) s w p near h = refl
   spelling_read (static_member spot m) s w p near h = static_on m s w p
   spelling_read (append e) s w p near h =
-      spelling_read e s (punct mark.LeftBracket ∷ punct mark.RightBracket ∷ w) p.1 (operand_near e s (omega arith)) (follows_draw subscripts e s (punct mark.RightBracket ∷ w) (suffix_low e p.0))
-      ∙ suffix_on subscripts e s (punct mark.RightBracket ∷ w) (omega arith) (suffix_low e p.0)
+      spelling_read e s (punct mark.LeftBracket ∷ punct mark.RightBracket ∷ w) p.1 (operand_near e s (omega arith)) (follows_draw by_index e s (punct mark.RightBracket ∷ w) (suffix_low e p.0))
+      ∙ suffix_on by_index e s (punct mark.RightBracket ∷ w) (omega arith) (suffix_low e p.0)
   spelling_read (index e key) s w p near h =
       spelling_read e s (punct mark.LeftBracket ∷ spell key (punct mark.RightBracket ∷ w)) p.1 (operand_near e s (omega arith))
-      (follows_draw subscripts e s (spell key (punct mark.RightBracket ∷ w)) (suffix_low e p.0))
-      ∙ suffix_on subscripts e s (spell key (punct mark.RightBracket ∷ w)) (omega arith) (suffix_low e p.0)
+      (follows_draw by_index e s (spell key (punct mark.RightBracket ∷ w)) (suffix_low e p.0))
+      ∙ suffix_on by_index e s (spell key (punct mark.RightBracket ∷ w)) (omega arith) (suffix_low e p.0)
       ∙ enters_index e s (spell key (punct mark.RightBracket ∷ w)) (starts key (punct mark.RightBracket ∷ w))
       ∙ spelling_read key (index_open e ∷ s) (punct mark.RightBracket ∷ w) p.2 (omega arith) (follows_bracket (index_open e) s key w tt)
       ∙ ap (λ m. read_from m (punct mark.RightBracket ∷ w)) (after_low key (index_open e ∷ s) (omega arith))
   spelling_read (selected e arrow m) s w p near h =
-      spelling_read e s (draw_symbol (selects arrow) ∷ member_symbol m ∷ w) p.1 (operand_near e s (omega arith)) (follows_draw (selects arrow) e s (member_symbol m ∷ w) (suffix_low e p.0))
-      ∙ suffix_on (selects arrow) e s (member_symbol m ∷ w) (omega arith) (suffix_low e p.0)
+      spelling_read e s (draw_symbol (by_select arrow) ∷ member_symbol m ∷ w) p.1 (operand_near e s (omega arith)) (follows_draw (by_select arrow) e s (member_symbol m ∷ w) (suffix_low e p.0))
+      ∙ suffix_on (by_select arrow) e s (member_symbol m ∷ w) (omega arith) (suffix_low e p.0)
       ∙ member_on arrow m e s w p.2
   spelling_read (computed e key) s w p near h =
       spelling_read e s (punct mark.Arrow ∷ punct mark.LeftBrace ∷ spell key (punct mark.RightBrace ∷ w)) p.1 (operand_near e s (omega arith))
-      (follows_draw (selects thin) e s (punct mark.LeftBrace ∷ spell key (punct mark.RightBrace ∷ w)) (suffix_low e p.0))
-      ∙ suffix_on (selects thin) e s (punct mark.LeftBrace ∷ spell key (punct mark.RightBrace ∷ w)) (omega arith) (suffix_low e p.0)
+      (follows_draw (by_select thin) e s (punct mark.LeftBrace ∷ spell key (punct mark.RightBrace ∷ w)) (suffix_low e p.0))
+      ∙ suffix_on (by_select thin) e s (punct mark.LeftBrace ∷ spell key (punct mark.RightBrace ∷ w)) (omega arith) (suffix_low e p.0)
       ∙ spelling_read key (computed_open e ∷ s) (punct mark.RightBrace ∷ w) p.3 (omega arith) (follows_shut (punct mark.RightBrace) (computed_open e ∷ s) key w refl (λ a. cc) p.2)
       ∙ ap (λ m. read_from m (punct mark.RightBrace ∷ w)) (after_low key (computed_open e ∷ s) (omega arith))
   spelling_read (call f items) s w p near h =
       spelling_read f s (punct mark.LeftParen ∷ spell_items items (punct mark.RightParen ∷ w)) p.1 (operand_near f s (omega arith))
-      (follows_draw applies f s (spell_items items (punct mark.RightParen ∷ w)) (call_low f p.0))
-      ∙ suffix_on applies f s (spell_items items (punct mark.RightParen ∷ w)) (omega arith) (call_low f p.0)
+      (follows_draw by_call f s (spell_items items (punct mark.RightParen ∷ w)) (call_low f p.0))
+      ∙ suffix_on by_call f s (spell_items items (punct mark.RightParen ∷ w)) (omega arith) (call_low f p.0)
       ∙ list_back (of_call f) items s w p.2 p.2 p.3
   spelling_read (new spot class) s w p near h = class_back class s w p ∙ class_done class s w h.low
   spelling_read (new_with spot class items) s w p near h =
@@ -324,38 +324,38 @@ mutual
       prefix_on op s (spell e w) near
       ∙ spelling_read e (prefix_open op ∷ s) w p.1 p.0 (inside (prefix_open op) s e w (omega arith) short low h.arrow (λ b. b) h)
       ∙ close_by (prefix_open op) s e w (omega arith) (omega (arith, prefix_bound op)) short
-  spelling_read (counted e count) s w p near h =
-      spelling_read e s (draw_symbol (counts count) ∷ w) p.1 (operand_near e s (operand_ends e p.0)) (follows_draw (counts count) e s w (operand_ends e p.0))
-      ∙ operator_on (counts count) e s w (omega arith) near (operand_ends e p.0)
+  spelling_read (count e way) s w p near h =
+      spelling_read e s (draw_symbol (by_count way) ∷ w) p.1 (operand_near e s (operand_ends e p.0)) (follows_draw (by_count way) e s w (operand_ends e p.0))
+      ∙ operator_on (by_count way) e s w (omega arith) near (operand_ends e p.0)
   spelling_read (binary op l r) s w p near h =
       let low : head_strength w < ends r = omega (arith, h.low) in
       let short : head_strength w < ends_at (is_arrow (head_continuation w)) (binary_open op l) =
       omega (arith, h.low, edge_bounds op, ends_at_level (is_arrow (head_continuation w)) (binary_open op l) refl) in
-      spelling_read l s (draw_symbol (joins op) ∷ spell r w) p.2 (omega (arith, power_of_left l (binary_row op).power (binary_bound op).0 p.0))
-      (follows_draw (joins op) l s (spell r w) p.0)
-      ∙ operator_on (joins op) l s (spell r w) (operator_small op) near p.0
+      spelling_read l s (draw_symbol (by_binary op) ∷ spell r w) p.2 (omega (arith, power_of_left l (binary_row op).power (binary_bound op).0 p.0))
+      (follows_draw (by_binary op) l s (spell r w) p.0)
+      ∙ operator_on (by_binary op) l s (spell r w) (operator_small op) near p.0
       ∙ spelling_read r (binary_open op l ∷ s) w p.3 p.1 (inside (binary_open op l) s r w (omega (arith, edge_bounds op)) short low h.arrow (λ b. b) h)
       ∙ close_by (binary_open op l) s r w (omega (arith, edge_bounds op)) (omega (arith, binary_bound op)) short
-  spelling_read (instance l r) s w p near h =
+  spelling_read (instance_of l r) s w p near h =
       let opened_by : IsOpen r = open_by_ends r (operand_ends r p.1) in
       let low : head_strength w < ends r = omega (arith, h.low, opened_by.ends_is) in
-      let short : head_strength w < ends_at (is_arrow (head_continuation w)) (instance_open l) =
-      omega (arith, h.low, ends_at_level (is_arrow (head_continuation w)) (instance_open l) refl) in
-      spelling_read l s (draw_symbol checks ∷ spell r w) p.3 (omega (arith, power_of_left l instance_row.power (omega arith) p.0)) (follows_draw checks l s (spell r w) p.0)
-      ∙ operator_on checks l s (spell r w) (omega arith) near p.0
-      ∙ spelling_read r (instance_open l ∷ s) w p.4 (omega (arith, opened_by.power_is)) (record { low = low; arrow = λ a. opened_by.no_arrow; bare = λ b. let e : ends_bare r ≡ false = opened_by.not_bare in cc })
-      ∙ ap (λ b. read_from (after_by b r (instance_open l ∷ s)) w) p.2
-      ∙ released_before (instance_open l) s r w (omega arith) short
-  spelling_read (static_instance l spot) s w p near h =
-      spelling_read l s (draw_symbol checks ∷ keyword word.Static ∷ w) p.1 (omega (arith, power_of_left l instance_row.power (omega arith) p.0)) (follows_draw checks l s (keyword word.Static ∷ w) p.0)
-      ∙ operator_on checks l s (keyword word.Static ∷ w) (omega arith) near p.0
+      let short : head_strength w < ends_at (is_arrow (head_continuation w)) (instance_of_open l) =
+      omega (arith, h.low, ends_at_level (is_arrow (head_continuation w)) (instance_of_open l) refl) in
+      spelling_read l s (draw_symbol by_instance_of ∷ spell r w) p.3 (omega (arith, power_of_left l instance_of_row.power (omega arith) p.0)) (follows_draw by_instance_of l s (spell r w) p.0)
+      ∙ operator_on by_instance_of l s (spell r w) (omega arith) near p.0
+      ∙ spelling_read r (instance_of_open l ∷ s) w p.4 (omega (arith, opened_by.power_is)) (record { low = low; arrow = λ a. opened_by.no_arrow; bare = λ b. let e : ends_bare r ≡ false = opened_by.not_bare in cc })
+      ∙ ap (λ b. read_from (after_by b r (instance_of_open l ∷ s)) w) p.2
+      ∙ released_before (instance_of_open l) s r w (omega arith) short
+  spelling_read (instance_of_static l spot) s w p near h =
+      spelling_read l s (draw_symbol by_instance_of ∷ keyword word.Static ∷ w) p.1 (omega (arith, power_of_left l instance_of_row.power (omega arith) p.0)) (follows_draw by_instance_of l s (keyword word.Static ∷ w) p.0)
+      ∙ operator_on by_instance_of l s (keyword word.Static ∷ w) (omega arith) near p.0
       ∙ static_done l s w (omega (arith, h.low))
   spelling_read (choice c a b) s w p near h =
       let low : head_strength w < ends b = omega (arith, h.low) in
       let short : head_strength w < ends_at (is_arrow (head_continuation w)) (else_open c a) = omega (arith, h.low, ends_at_level (is_arrow (head_continuation w)) (else_open c a) refl) in
       spelling_read c s (punct mark.Question ∷ spell a (punct mark.Colon ∷ spell b w)) p.3 (omega (arith, power_of_left c choice_row.power (omega arith) p.0))
-      (follows_draw chooses c s (spell a (punct mark.Colon ∷ spell b w)) p.0)
-      ∙ operator_on chooses c s (spell a (punct mark.Colon ∷ spell b w)) (omega arith) near p.0
+      (follows_draw by_choice c s (spell a (punct mark.Colon ∷ spell b w)) p.0)
+      ∙ operator_on by_choice c s (spell a (punct mark.Colon ∷ spell b w)) (omega arith) near p.0
       ∙ enter_then c s (spell a (punct mark.Colon ∷ spell b w)) (starts a (punct mark.Colon ∷ spell b w))
       ∙ spelling_read a (then_open c ∷ s) (punct mark.Colon ∷ spell b w) p.4 (omega arith) (follows_shut (punct mark.Colon) (then_open c ∷ s) a (spell b w) refl (λ x. cc) p.1)
       ∙ ap (λ m. read_from m (punct mark.Colon ∷ spell b w)) (after_low a (then_open c ∷ s) (omega arith))
@@ -365,16 +365,16 @@ mutual
       let low : head_strength w < ends b = omega (arith, h.low) in
       let short : head_strength w < ends_at (is_arrow (head_continuation w)) (short_open c) = omega (arith, h.low, ends_at_level (is_arrow (head_continuation w)) (short_open c) refl) in
       spelling_read c s (punct mark.Question ∷ punct mark.Colon ∷ spell b w) p.2 (omega (arith, power_of_left c choice_row.power (omega arith) p.0))
-      (follows_draw chooses c s (punct mark.Colon ∷ spell b w) p.0)
-      ∙ operator_on chooses c s (punct mark.Colon ∷ spell b w) (omega arith) near p.0
+      (follows_draw by_choice c s (punct mark.Colon ∷ spell b w) p.0)
+      ∙ operator_on by_choice c s (punct mark.Colon ∷ spell b w) (omega arith) near p.0
       ∙ spelling_read b (short_open c ∷ s) w p.3 p.1 (inside (short_open c) s b w (omega arith) short low h.arrow (λ x. x) h)
       ∙ close_by (short_open c) s b w (omega arith) (omega arith) short
   spelling_read (assign (by_value op) l r) s w p near h =
       let low : head_strength w < ends r = omega (arith, h.low) in
       let short : head_strength w < ends_at (is_arrow (head_continuation w)) (assign_open (by_value op) l) =
       omega (arith, h.low, ends_at_level (is_arrow (head_continuation w)) (assign_open (by_value op) l) refl) in
-      spelling_read l s (draw_symbol (sets op) ∷ spell r w) p.2 (operand_near l s (operand_ends l p.0)) (follows_draw (sets op) l s (spell r w) (operand_ends l p.0))
-      ∙ operator_on (sets op) l s (spell r w) (omega arith) near (operand_ends l p.0)
+      spelling_read l s (draw_symbol (by_assign op) ∷ spell r w) p.2 (operand_near l s (operand_ends l p.0)) (follows_draw (by_assign op) l s (spell r w) (operand_ends l p.0))
+      ∙ operator_on (by_assign op) l s (spell r w) (omega arith) near (operand_ends l p.0)
       ∙ assigned_on op l s (spell r w) (starts r w)
       ∙ spelling_read r (assign_open (by_value op) l ∷ s) w p.3 p.1 (inside (assign_open (by_value op) l) s r w (omega arith) short low h.arrow (λ x. x) h)
       ∙ close_by (assign_open (by_value op) l) s r w (omega arith) (omega arith) short
@@ -382,9 +382,9 @@ mutual
       let low : head_strength w < ends r = omega (arith, h.low) in
       let short : head_strength w < ends_at (is_arrow (head_continuation w)) (assign_open by_reference l) =
       omega (arith, h.low, ends_at_level (is_arrow (head_continuation w)) (assign_open by_reference l) refl) in
-      spelling_read l s (draw_symbol (sets setting.Plain) ∷ punct mark.Ampersand ∷ spell r w) p.2 (operand_near l s (operand_ends l p.0))
-      (follows_draw (sets setting.Plain) l s (punct mark.Ampersand ∷ spell r w) (operand_ends l p.0))
-      ∙ operator_on (sets setting.Plain) l s (punct mark.Ampersand ∷ spell r w) (omega arith) near (operand_ends l p.0)
+      spelling_read l s (draw_symbol (by_assign setting.Plain) ∷ punct mark.Ampersand ∷ spell r w) p.2 (operand_near l s (operand_ends l p.0))
+      (follows_draw (by_assign setting.Plain) l s (punct mark.Ampersand ∷ spell r w) (operand_ends l p.0))
+      ∙ operator_on (by_assign setting.Plain) l s (punct mark.Ampersand ∷ spell r w) (omega arith) near (operand_ends l p.0)
       ∙ spelling_read r (assign_open by_reference l ∷ s) w p.3 p.1 (inside (assign_open by_reference l) s r w (omega arith) short low h.arrow (λ x. x) h)
       ∙ close_by (assign_open by_reference l) s r w (omega arith) (omega arith) short
   spelling_read (yield_nothing spot) s w p near h = yield_on s w near ∙ bare_done s w (h.bare refl)

@@ -2,7 +2,7 @@
 use Rattle.std.proofs.Common.{◌≡◌, ◌≢◌, ◌≤◌, ◌<◌, inl, inr, ◌↔◌, ◌==◌, ℕ, suc, Bool, true, false, if◌then◌else◌, refl, sym, ◌∙◌, ap, subst, arith}
 use Rattle.std.proofs.lemmas.Bool.Decides.{eqb_tells}
 use Rattle.php_ast.specs.declared.operator.Binary.{Binary}
-use Rattle.php_ast.specs.expression.Tree.{prefix, counted, binary, instance, static_instance, choice, short_choice, assign, yield_nothing, yield_value, yield_pair, leaf}
+use Rattle.php_ast.specs.expression.Tree.{prefix, count, binary, instance_of, instance_of_static, choice, short_choice, assign, yield_nothing, yield_value, yield_pair, leaf}
 use Rattle.php_ast.specs.Power.{Grouping, to_left, to_right, ungrouped, binary_row, prefix_power}
 use Rattle.php_ast.specs.expression.Proper.{power, ends, edge, edge_of, right_of, Proper}
 use Rattle.php_grammar.specs.expression.Machine.{Form}
@@ -14,8 +14,8 @@ use Rattle.php_grammar.proofs.expression.Fill.{prefix_bound, binary_bound, edge_
 above_to : (e : Form) (p : ℕ) → Proper e → p < power e → p < ends e → AllAbove p (ending_powers e)
 above_to (prefix spot op e) p h near low = (omega arith, above_to e p h.1 (omega (arith, h.0)) (omega arith))
 above_to (binary op l r) p h near low = (near, above_to r p h.3 (omega (arith, h.1, edge_bounds op)) (omega arith))
-above_to (instance l r) p h near low = (low, tt)
-above_to (static_instance l spot) p h near low = (low, tt)
+above_to (instance_of l r) p h near low = (low, tt)
+above_to (instance_of_static l spot) p h near low = (low, tt)
 above_to (choice c a b) p h near low = (near, above_to b p h.5 (omega (arith, h.2)) (omega arith))
 above_to (short_choice c b) p h near low = (near, above_to b p h.3 (omega (arith, h.1)) (omega arith))
 above_to (assign how l r) p h near low = (omega arith, above_to r p h.3 (omega (arith, h.1)) (omega arith))
@@ -27,8 +27,8 @@ above_to _ p h near low = tt
 above_from : (e : Form) (p : ℕ) → p < 50 → Proper e → p < power e → AllAbove p (ending_powers e) → p < ends e
 above_from (prefix spot op e) p small h near a = omega (arith, a.0, above_from e p small h.1 (omega (arith, h.0, a.0)) a.1)
 above_from (binary op l r) p small h near a = omega (arith, edge_bounds op, above_from r p small h.3 (omega (arith, h.1, edge_bounds op)) a.1)
-above_from (instance l r) p small h near a = a.0
-above_from (static_instance l spot) p small h near a = a.0
+above_from (instance_of l r) p small h near a = a.0
+above_from (instance_of_static l spot) p small h near a = a.0
 above_from (choice c x b) p small h near a = omega (arith, above_from b p small h.5 (omega (arith, h.2)) a.1)
 above_from (short_choice c b) p small h near a = omega (arith, above_from b p small h.3 (omega (arith, h.1)) a.1)
 above_from (assign how l r) p small h near a = omega (arith, a.0, above_from r p small h.3 (omega (arith, h.1, a.0)) a.1)
@@ -130,10 +130,10 @@ on_left : (p : ℕ) (l : Form) → p < 50 → Proper l → (p < ends l) ↔ AllA
 on_left p (binary op l r) small h = binary_on_left p op l r small h
 on_left p (choice c a b) small h = choice_on_left p c a b small h
 on_left p (short_choice c b) small h = short_on_left p c b small h
-on_left p (instance l r) small h = ((λ low. (low, tt)), (λ a. a.0))
-on_left p (static_instance l spot) small h = ((λ low. (low, tt)), (λ a. a.0))
+on_left p (instance_of l r) small h = ((λ low. (low, tt)), (λ a. a.0))
+on_left p (instance_of_static l spot) small h = ((λ low. (low, tt)), (λ a. a.0))
 on_left p (prefix spot op e) small h = higher (prefix spot op e) p small h small
-on_left p (counted e count) small h = higher (counted e count) p small h small
+on_left p (count e way) small h = higher (count e way) p small h small
 on_left p (assign how l r) small h = higher (assign how l r) p small h small
 on_left p (yield_nothing spot) small h = higher (yield_nothing spot) p small h small
 on_left p (yield_value spot v) small h = higher (yield_value spot v) p small h small
@@ -145,8 +145,8 @@ on_left p e small h = ((λ low. tt), (λ a. omega arith))
 
 free_power : (e : Form) → IsFree e → 50 ≤ power e
 free_power (binary op l r) h = absurd h
-free_power (instance l r) h = absurd h
-free_power (static_instance l spot) h = absurd h
+free_power (instance_of l r) h = absurd h
+free_power (instance_of_static l spot) h = absurd h
 free_power (choice c a b) h = absurd h
 free_power (short_choice c b) h = absurd h
 free_power _ h = omega arith
@@ -166,7 +166,7 @@ rules_agree l r h = record {
     on_right = on_right (binary_row op).grouping (binary_row op).power r (omega (arith, binary_bound op));
   };
   choice_agrees = record { on_left = on_left 10 l (omega arith) h; on_right = on_right to_left 10 r (omega arith) };
-  instance_agrees = on_left 36 l (omega arith) h;
+  instance_of_agrees = on_left 36 l (omega arith) h;
   assign_agrees = on_right to_right 8 r (omega arith);
   prefix_agrees = λ op. on_prefix (prefix_power op) r (omega (arith, prefix_bound op));
   yield_agrees = on_prefix 7 r (omega arith);

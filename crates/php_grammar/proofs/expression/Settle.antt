@@ -3,10 +3,10 @@ use Rattle.std.proofs.Common.{◌≡◌, ◌≤◌, ◌<◌, inl, ℕ, Bool, tru
 use Rattle.std.specs.Prelude.{nat_lt}
 use Rattle.std.proofs.lemmas.Bool.{le-ltb}
 use Rattle.php_ast.specs.Symbol.{Symbol}
-use Rattle.php_ast.specs.expression.Tree.{prefix, counted, binary, instance, static_instance, choice, short_choice, assign, yield_nothing, yield_value, yield_pair}
+use Rattle.php_ast.specs.expression.Tree.{prefix, count, binary, instance_of, instance_of_static, choice, short_choice, assign, yield_nothing, yield_value, yield_pair}
 use Rattle.php_ast.specs.expression.Spelling.{spell}
 use Rattle.php_ast.specs.expression.Proper.{takes_arrow, ends_bare, power}
-use Rattle.php_grammar.specs.expression.Machine.{Form, OpenForm, enclosed_open, items_open, index_open, computed_open, step_open, part_open, then_open, instance_open, yield_open, OpenForms, least_power_at, least_power, ends_at, completed, opening_part, opening_parts, Reached, pick, released}
+use Rattle.php_grammar.specs.expression.Machine.{Form, OpenForm, enclosed_open, items_open, index_open, computed_open, step_open, part_open, then_open, instance_of_open, yield_open, OpenForms, least_power_at, least_power, ends_at, completed, opening_part, opening_parts, Reached, pick, released}
 use Rattle.php_grammar.proofs.expression.Sound.{IsFitting}
 use Rattle.php_grammar.proofs.expression.Fill.{completed_proper, completed_power, completed_spells, without_end, without_end_call, call_seat, seats_by, binary_bound}
 
@@ -35,16 +35,16 @@ arrow_in (computed_open x) e h a = absurd (omega arith)
 arrow_in (step_open steps) e h a = absurd (omega arith)
 arrow_in (part_open pieces) e h a = absurd (omega arith)
 arrow_in (then_open c) e h a = absurd (omega arith)
-arrow_in (instance_open l) e h a = refl
+arrow_in (instance_of_open l) e h a = refl
 arrow_in yield_open e h a = absurd (omega arith)
 arrow_in _ e h a = a
 
 operand_bare : (e : Form) → 90 ≤ power e → ends_bare e ≡ false
 operand_bare (prefix spot op e) h = absurd (omega arith)
-operand_bare (counted e count) h = refl
+operand_bare (count e way) h = refl
 operand_bare (binary op l r) h = absurd (omega (arith, binary_bound op))
-operand_bare (instance l r) h = refl
-operand_bare (static_instance l spot) h = refl
+operand_bare (instance_of l r) h = refl
+operand_bare (instance_of_static l spot) h = refl
 operand_bare (choice c a b) h = absurd (omega arith)
 operand_bare (short_choice c b) h = absurd (omega arith)
 operand_bare (assign how l r) h = absurd (omega arith)
@@ -61,7 +61,7 @@ bare_in (computed_open x) e h p = absurd (omega arith)
 bare_in (step_open steps) e h p = absurd (omega arith)
 bare_in (part_open pieces) e h p = absurd (omega arith)
 bare_in (then_open c) e h p = absurd (omega arith)
-bare_in (instance_open l) e h p = sym (operand_bare e p)
+bare_in (instance_of_open l) e h p = sym (operand_bare e p)
 bare_in _ e h p = refl
 
 is_released_if : (b arrow : Bool) (n : ℕ) (f : OpenForm) (s : OpenForms) (e : Form) → nat_lt n (ends_at arrow f) ≡ b → IsFitting e (f ∷ s)

@@ -1,8 +1,8 @@
 -- The nesting of a tree that stands deeper: each depth is so much more.
 use Rattle.std.proofs.Common.{◌≡◌, ℕ, ◌+◌, List, ◌∷◌, refl, ◌∙◌, ap, arith}
 use Rattle.php_ast.specs.declared.operator.ArrayForm.TheVariants as form
-use Rattle.php_ast.specs.expression.Tree.{Enclosure, parentheses, emptiness, exiting, Listing, array, isset, Setting, by_value, by_reference}
-use Rattle.php_ast.specs.expression.Tree.{Tree, leaf, template, enclosed, listed, exit, exit_empty, static_member, append, index, selected, computed, call, new, new_with, prefix, counted, binary, instance, static_instance, choice, short_choice, assign, yield_nothing, yield_value, yield_pair}
+use Rattle.php_ast.specs.expression.Tree.{Enclosure, parentheses, emptiness, exiting, Listing, array, is_set, Setting, by_value, by_reference}
+use Rattle.php_ast.specs.expression.Tree.{Tree, leaf, template, enclosed, listed, exit, exit_empty, static_member, append, index, selected, computed, call, new, new_with, prefix, count, binary, instance_of, instance_of_static, choice, short_choice, assign, yield_nothing, yield_value, yield_pair}
 use Rattle.php_ast.specs.expression.Tree.{Items, none, and, skip, Lead, plain, reference, spread, keyed, keyed_reference, Pieces, no_piece, bytes, value, Class, class_name, class_static, class_found, Steps, from, step_property, step_index}
 use Rattle.php_ast.specs.Power.{Grouping, to_left, to_right, ungrouped, binary_row}
 use Rattle.php_ast.specs.expression.Nesting.{right_depth, opening_nests, list_opening_nests, setting_nests, comma_nests, nests, nests_items, nests_lead, nests_pieces, nests_class, nests_steps}
@@ -25,7 +25,7 @@ list_opening_shift : (listing : Listing) (d k : ℕ) (ns w : List ℕ) → list_
 list_opening_shift (array form.Brackets) d k ns w = refl
 list_opening_shift (array form.Array) d k ns w = refl
 list_opening_shift (array form.List) d k ns w = refl
-list_opening_shift isset d k ns w = refl
+list_opening_shift is_set d k ns w = refl
 
 setting_shift : (how : Setting) (d k : ℕ) (ns w : List ℕ) → setting_nests how (d + k) (shifted k ns w) ≡ shifted k (setting_nests how d ns) w
 setting_shift (by_value op) d k ns w = refl
@@ -71,13 +71,13 @@ mutual
       ∙ ap (λ u. (d + k) ∷ nests_class class (d + k) ((d + k) ∷ u)) (items_shift items (1 + d) k ((1 + d) ∷ ns) w)
       ∙ ap (λ u. (d + k) ∷ u) (class_shift class d k (d ∷ nests_items items (1 + d) ((1 + d) ∷ ns)) w)
   nests_shift (prefix note op e) d k ns w = ap (λ x. (d + k) ∷ nests e x (shifted k ns w)) (one_more d k) ∙ ap (λ u. (d + k) ∷ u) (nests_shift e (1 + d) k ns w)
-  nests_shift (counted e count) d k ns w = nests_shift e d k (d ∷ ns) w
+  nests_shift (count e way) d k ns w = nests_shift e d k (d ∷ ns) w
   nests_shift (binary op l r) d k ns w =
       ap (λ u. nests l (d + k) ((d + k) ∷ u)) (ap (λ x. nests r x (shifted k ns w)) (right_shift (binary_row op).grouping d k))
       ∙ ap (λ u. nests l (d + k) ((d + k) ∷ u)) (nests_shift r (right_depth (binary_row op).grouping + d) k ns w)
       ∙ nests_shift l d k (d ∷ nests r (right_depth (binary_row op).grouping + d) ns) w
-  nests_shift (instance l r) d k ns w = ap (λ u. nests l (d + k) ((d + k) ∷ u)) (nests_shift r d k ns w) ∙ nests_shift l d k (d ∷ nests r d ns) w
-  nests_shift (static_instance l note) d k ns w = nests_shift l d k (d ∷ d ∷ ns) w
+  nests_shift (instance_of l r) d k ns w = ap (λ u. nests l (d + k) ((d + k) ∷ u)) (nests_shift r d k ns w) ∙ nests_shift l d k (d ∷ nests r d ns) w
+  nests_shift (instance_of_static l note) d k ns w = nests_shift l d k (d ∷ d ∷ ns) w
   nests_shift (choice c a b) d k ns w =
       ap (λ x. nests c (d + k) ((d + k) ∷ nests a x (x ∷ nests b (d + k) (shifted k ns w)))) (one_more d k)
       ∙ ap (λ u. nests c (d + k) ((d + k) ∷ nests a ((1 + d) + k) (((1 + d) + k) ∷ u))) (nests_shift b d k ns w)

@@ -5,8 +5,8 @@ use Rattle.php_token.specs.declared.kind.Punct.TheVariants as mark
 use Rattle.php_ast.specs.declared.operator.ArrayForm.TheVariants as form
 use Rattle.php_ast.specs.Symbol as symbol
 use Rattle.php_ast.specs.Symbol.{Symbol, keyword, punct}
-use Rattle.php_ast.specs.expression.Tree.{Enclosure, parentheses, emptiness, exiting, Listing, array, isset, Setting, by_value, by_reference}
-use Rattle.php_ast.specs.expression.Tree.{Tree, leaf, template, enclosed, listed, exit, exit_empty, static_member, append, index, selected, computed, call, new, new_with, prefix, counted, binary, instance, static_instance, choice, short_choice, assign, yield_nothing, yield_value, yield_pair}
+use Rattle.php_ast.specs.expression.Tree.{Enclosure, parentheses, emptiness, exiting, Listing, array, is_set, Setting, by_value, by_reference}
+use Rattle.php_ast.specs.expression.Tree.{Tree, leaf, template, enclosed, listed, exit, exit_empty, static_member, append, index, selected, computed, call, new, new_with, prefix, count, binary, instance_of, instance_of_static, choice, short_choice, assign, yield_nothing, yield_value, yield_pair}
 use Rattle.php_ast.specs.expression.Tree.{Items, none, and, skip, Lead, plain, reference, spread, keyed, keyed_reference, Pieces, no_piece, bytes, value, Class, class_name, class_static, class_found, Steps, from, step_property, step_index}
 use Rattle.php_ast.specs.expression.Spelling.{spell, spell_items, spell_lead, spell_pieces, spell_class, spell_steps, comma, opening, list_opening, list_closing, setting_symbols, arrow_symbol, member_symbol}
 use Rattle.php_ast.specs.Operators.{binary_symbol, count_symbol}
@@ -21,7 +21,7 @@ list_opening_length : (listing : Listing) (w : List Symbol) → length (list_ope
 list_opening_length (array form.Brackets) w = omega arith
 list_opening_length (array form.Array) w = omega arith
 list_opening_length (array form.List) w = omega arith
-list_opening_length isset w = omega arith
+list_opening_length is_set w = omega arith
 
 setting_length : (how : Setting) (w : List Symbol) → length (setting_symbols how w) ≡ setting_size how + length w
 setting_length (by_value op) w = omega arith
@@ -55,10 +55,10 @@ mutual
   spell_length (new_with spot class items) w =
       omega (arith, class_length class (punct mark.LeftParen ∷ spell_items items (punct mark.RightParen ∷ w)), items_length items (punct mark.RightParen ∷ w))
   spell_length (prefix spot op e) w = omega (arith, spell_length e w)
-  spell_length (counted e count) w = omega (arith, spell_length e (count_symbol count ∷ w))
+  spell_length (count e way) w = omega (arith, spell_length e (count_symbol way ∷ w))
   spell_length (binary op l r) w = omega (arith, spell_length l (binary_symbol op ∷ spell r w), spell_length r w)
-  spell_length (instance l r) w = omega (arith, spell_length l (keyword word.InstanceOf ∷ spell r w), spell_length r w)
-  spell_length (static_instance l spot) w = omega (arith, spell_length l (keyword word.InstanceOf ∷ keyword word.Static ∷ w))
+  spell_length (instance_of l r) w = omega (arith, spell_length l (keyword word.InstanceOf ∷ spell r w), spell_length r w)
+  spell_length (instance_of_static l spot) w = omega (arith, spell_length l (keyword word.InstanceOf ∷ keyword word.Static ∷ w))
   spell_length (choice c a b) w =
       omega (arith, spell_length c (punct mark.Question ∷ spell a (punct mark.Colon ∷ spell b w)), spell_length a (punct mark.Colon ∷ spell b w), spell_length b w)
   spell_length (short_choice c b) w = omega (arith, spell_length c (punct mark.Question ∷ punct mark.Colon ∷ spell b w), spell_length b w)

@@ -4,12 +4,12 @@ use Rattle.php_token.specs.declared.kind.Keyword.TheVariants as word
 use Rattle.php_token.specs.declared.kind.Punct.TheVariants as mark
 use Rattle.php_ast.specs.Symbol as symbol
 use Rattle.php_ast.specs.Symbol.{Symbol, keyword, punct}
-use Rattle.php_ast.specs.expression.Tree.{parentheses, array, isset, Items, Lead, plain, spread}
+use Rattle.php_ast.specs.expression.Tree.{parentheses, array, is_set, Items, Lead, plain, spread}
 use Rattle.php_ast.specs.expression.Spelling.{spell, spell_items, spell_pieces, spell_class, spell_steps, comma, arrow_symbol}
-use Rattle.php_ast.specs.Power.{binary_row, choice_row, instance_row, yield_power}
+use Rattle.php_ast.specs.Power.{binary_row, choice_row, instance_of_row, yield_power}
 use Rattle.php_ast.specs.expression.Proper.{free, top, power, takes_arrow, ends_bare, is_call, IsOperand, HasSuffix, IsCallable, AreArguments, AreArrayItems, AreValues, FitsListing, FitsLeft, IsKey, Proper, AreProperItems, IsProperLead, AreProperPieces, IsProperClass, AreProperSteps}
-use Rattle.php_grammar.specs.expression.Machine.{Nothing, Form, Holder, of_call, of_new, of_list, OpenForm, enclosed_open, items_open, index_open, computed_open, step_open, part_open, then_open, else_open, short_open, prefix_open, binary_open, instance_open, assign_open, yield_open, yield_value_open, OpenForms, State, expects, holds, holds_call, due_enclosed, due_listed, past_items, past_value, past_exit, past_exit_paren, past_static, past_static_colons, past_template, past_index, past_arrow, past_new, past_class, past_step, past_question, past_assign, past_yield, least_power, has_paren, is_array, holder_front, opening_parts}
-use Rattle.php_grammar.proofs.expression.Signs.{enclosure_word, listing_word}
+use Rattle.php_grammar.specs.expression.Machine.{Nothing, Form, Holder, of_call, of_new, of_list, OpenForm, enclosed_open, items_open, index_open, computed_open, step_open, part_open, then_open, else_open, short_open, prefix_open, binary_open, instance_of_open, assign_open, yield_open, yield_value_open, OpenForms, State, expects, holds, holds_call, due_enclosed, due_listed, past_items, past_value, past_exit, past_exit_paren, past_static, past_static_colons, past_template, past_index, past_arrow, past_new, past_class, past_step, past_question, past_assign, past_yield, least_power, has_paren, is_array, holder_front, opening_parts}
+use Rattle.php_grammar.proofs.expression.Roles.{enclosure_word, listing_word}
 
 -- ---- lists
 
@@ -21,7 +21,7 @@ SoundHolder (of_list listing) = Unit {0}
 -- items that a list may have so far
 abbrev pub SoundList : Holder → Items Nothing → Type 0
 SoundList (of_list (array form)) items = AreArrayItems items
-SoundList (of_list isset) items = AreValues items
+SoundList (of_list is_set) items = AreValues items
 SoundList _ items = AreArguments items
 
 -- all the items that it has
@@ -56,7 +56,7 @@ IsSoundAt (else_open c a) = FitsLeft choice_row c × (ends_bare a ≡ false) × 
 IsSoundAt (short_open c) = FitsLeft choice_row c × Proper c
 IsSoundAt (prefix_open op) = Unit {0}
 IsSoundAt (binary_open op l) = FitsLeft (binary_row op) l × Proper l
-IsSoundAt (instance_open l) = FitsLeft instance_row l × Proper l
+IsSoundAt (instance_of_open l) = FitsLeft instance_of_row l × Proper l
 IsSoundAt (assign_open how l) = IsOperand l × Proper l
 IsSoundAt yield_open = Unit {0}
 IsSoundAt (yield_value_open k) = (yield_power < power k) × IsKey k × Proper k
@@ -68,7 +68,7 @@ power_in (else_open c a) = choice_row.power
 power_in (short_open c) = choice_row.power
 power_in (prefix_open op) = free
 power_in (binary_open op l) = (binary_row op).power
-power_in (instance_open l) = instance_row.power
+power_in (instance_of_open l) = instance_of_row.power
 power_in (assign_open how l) = free
 power_in yield_open = free
 power_in (yield_value_open k) = free
@@ -80,7 +80,7 @@ IsSound (f ∷ s) = IsSoundAt f × (least_power s ≤ power_in f) × IsSound s
 
 -- a call is no class behind `instanceof`
 abbrev pub Seats : Form → OpenForms → Type 0
-Seats e (instance_open l ∷ s) = is_call e ≡ false
+Seats e (instance_of_open l ∷ s) = is_call e ≡ false
 Seats e _ = Unit {0}
 
 -- the innermost open form can take the tree

@@ -5,14 +5,14 @@ use Rattle.php_token.specs.declared.kind.Keyword.TheVariants as word
 use Rattle.php_token.specs.declared.kind.Punct.TheVariants as mark
 use Rattle.php_ast.specs.Symbol as symbol
 use Rattle.php_ast.specs.Symbol.{Symbol, keyword, punct}
-use Rattle.php_ast.specs.expression.Tree.{array, isset, Arrow, thin, colons, Member}
-use Rattle.php_ast.specs.expression.Tree.{template, static_member, selected, new, static_instance}
+use Rattle.php_ast.specs.expression.Tree.{array, is_set, Arrow, thin, colons, Member}
+use Rattle.php_ast.specs.expression.Tree.{template, static_member, selected, new, instance_of_static}
 use Rattle.php_ast.specs.expression.Tree.{Items, none, and, skip, Lead, plain, reference, spread, keyed, keyed_reference, Pieces, Class, class_name, class_static, class_found}
 use Rattle.php_ast.specs.expression.Spelling.{spell_items, member_symbol}
 use Rattle.php_ast.specs.expression.Proper.{is_none, AreArguments, AreArrayItems, AreProperItems, IsWord, IsMemberName, IsProperClass, IsProperLead, is_alone_missing}
-use Rattle.php_grammar.specs.expression.Sign.{applies, subscripts, selects, Closer, paren, bracket, comma as closing_comma, Continuation, draws, member_of, Mark, refers, spreads, ends_item, begins, is_left_brace}
-use Rattle.php_grammar.specs.expression.Machine.{Nothing, Form, Holder, of_call, of_new, of_list, items_open, computed_open, step_open, instance_open, OpenForms, State, expects, holds, past_items, past_static, past_static_colons, past_template, past_arrow, past_new, past_class, past_step, closed_with, has_paren, holder_closing, is_array, is_arguments, may_end, ended_items, holder_front, opening_parts, allowed_if, after, goes_on, start, ended_by, item_step, static_alone, static_step, template_step, with_member, arrow_step, new_step, class_step}
-use Rattle.php_grammar.proofs.expression.Signs.{draw_symbol, closer_symbol, Says, MarkSays, MemberSays, member_says, WordSays, left_brace_says}
+use Rattle.php_grammar.specs.expression.Role.{by_call, by_index, by_select, Closer, paren, bracket, comma as closing_comma, Continuation, draws, member_of, Mark, refers, spreads, ends_item, begins, is_left_brace}
+use Rattle.php_grammar.specs.expression.Machine.{Nothing, Form, Holder, of_call, of_new, of_list, items_open, computed_open, step_open, instance_of_open, OpenForms, State, expects, holds, past_items, past_static, past_static_colons, past_template, past_arrow, past_new, past_class, past_step, closed_with, has_paren, holder_closing, is_array, is_arguments, may_end, ended_items, holder_front, opening_parts, allowed_if, after, goes_on, start, ended_by, item_step, static_alone, static_step, template_step, with_member, arrow_step, new_step, class_step}
+use Rattle.php_grammar.proofs.expression.Roles.{draw_symbol, closer_symbol, Says, MarkSays, MemberSays, member_says, WordSays, left_brace_says}
 use Rattle.php_grammar.proofs.expression.Sound.{SoundList, SoundEnd, SoundLead, SoundItems, IsSound, IsFitting, IsSoundState, symbols_so_far}
 use Rattle.php_grammar.proofs.expression.Fill.{least_power_most, seats_by}
 use Rattle.php_grammar.proofs.expression.SoundSteps.{LeadsOn, led, same_symbols, allowed_leads, pick_leads, test_is, closed_fits, holder_closing_is, bracket_closing_is, holder_leads, goes_on_leads, start_leads_on}
@@ -27,13 +27,13 @@ array_reference : (h : Holder) → is_array h ≡ true → SoundLead h reference
 array_reference (of_call f) is = cc
 array_reference (of_new class) is = cc
 array_reference (of_list (array form)) is = tt
-array_reference (of_list isset) is = cc
+array_reference (of_list is_set) is = cc
 
 pub array_keyed : (h : Holder) (k : Form) → is_array h ≡ true → SoundLead h (keyed k) × SoundLead h (keyed_reference k)
 array_keyed (of_call f) k is = cc
 array_keyed (of_new class) k is = cc
 array_keyed (of_list (array form)) k is = (tt, tt)
-array_keyed (of_list isset) k is = cc
+array_keyed (of_list is_set) k is = cc
 
 arguments_spread : (h : Holder) → is_arguments h ≡ true → SoundLead h spread
 arguments_spread (of_call f) is = tt
@@ -44,13 +44,13 @@ pub plain_lead : (h : Holder) → SoundLead h plain
 plain_lead (of_call f) = tt
 plain_lead (of_new class) = tt
 plain_lead (of_list (array form)) = tt
-plain_lead (of_list isset) = tt
+plain_lead (of_list is_set) = tt
 
 array_skip : (h : Holder) (items : Items Nothing) → is_array h ≡ true → SoundList h items → SoundList h (skip items)
 array_skip (of_call f) items is s = cc
 array_skip (of_new class) items is s = cc
 array_skip (of_list (array form)) items is s = s
-array_skip (of_list isset) items is s = cc
+array_skip (of_list is_set) items is s = cc
 
 ended_array : (items : Items Nothing) → AreArrayItems items → AreArrayItems (ended_items items) × (is_alone_missing (ended_items items) ≡ false)
 ended_array none s = (tt, refl)
@@ -66,7 +66,7 @@ ended_sound : (h : Holder) (items : Items Nothing) → may_end h items ≡ true 
 ended_sound (of_call f) items is s = none_arguments items is
 ended_sound (of_new class) items is s = none_arguments items is
 ended_sound (of_list (array form)) items is s = ended_array items s
-ended_sound (of_list isset) items is s = cc
+ended_sound (of_list is_set) items is s = cc
 
 ended_proper : (items : Items Nothing) → AreProperItems items → AreProperItems (ended_items items)
 ended_proper none p = tt
@@ -161,16 +161,16 @@ new_goes_on x t class s is p sound =
     same_symbols (holds (new tt class) s) (past_class class s) t (goes_on (new tt class) s x) (λ w. refl)
     (goes_on_leads x t (new tt class) s is (new_fits class s p sound) (λ i. refl) (λ i. refl))
 
-new_called : (t : Symbol) (class : Class Nothing) (s : OpenForms) → t ≡ draw_symbol applies → IsProperClass class → IsSound s → LeadsOn (past_class class s) t (Some (past_items (of_new class) none s))
+new_called : (t : Symbol) (class : Class Nothing) (s : OpenForms) → t ≡ draw_symbol by_call → IsProperClass class → IsSound s → LeadsOn (past_class class s) t (Some (past_items (of_new class) none s))
 new_called t class s is p sound = led (past_class class s) (past_items (of_new class) none s) t _ is (record { holder = p; list = tt; proper = tt }, sound) (λ w. refl)
 
 pub class_leads : (x : Continuation) (t : Symbol) (class : Class Nothing) (s : OpenForms) → Says x t → IsProperClass class → IsSound s → LeadsOn (past_class class s) t (class_step class s x)
-class_leads (draws applies) t (class_name spot text) s is p sound = new_called t (class_name spot text) s is p sound
-class_leads (draws applies) t (class_static spot) s is p sound = new_called t (class_static spot) s is p sound
-class_leads (draws applies) t (class_found steps) s is p sound = new_called t (class_found steps) s is p sound
-class_leads (draws subscripts) t (class_found steps) s is p sound =
+class_leads (draws by_call) t (class_name spot text) s is p sound = new_called t (class_name spot text) s is p sound
+class_leads (draws by_call) t (class_static spot) s is p sound = new_called t (class_static spot) s is p sound
+class_leads (draws by_call) t (class_found steps) s is p sound = new_called t (class_found steps) s is p sound
+class_leads (draws by_index) t (class_found steps) s is p sound =
     led (past_class (class_found steps) s) (expects (step_open steps ∷ s)) t _ is (p, omega (arith, least_power_most s), sound) (λ w. refl)
-class_leads (draws (selects thin)) t (class_found steps) s is p sound = led (past_class (class_found steps) s) (past_step steps s) t _ is (p, sound) (λ w. refl)
+class_leads (draws (by_select thin)) t (class_found steps) s is p sound = led (past_class (class_found steps) s) (past_step steps s) t _ is (p, sound) (λ w. refl)
 class_leads x t (class_name spot text) s is p sound = new_goes_on x t (class_name spot text) s is p sound
 class_leads x t (class_static spot) s is p sound = new_goes_on x t (class_static spot) s is p sound
 class_leads x t (class_found steps) s is p sound = new_goes_on x t (class_found steps) s is p sound
@@ -179,13 +179,13 @@ class_leads x t (class_found steps) s is p sound = new_goes_on x t (class_found 
 
 static_alone_leads : (x : Continuation) (t : Symbol) (s : OpenForms) → Says x t → IsSound s → LeadsOn (past_static s) t (static_alone s x)
 static_alone_leads x t [] is h = tt
-static_alone_leads x t (instance_open l ∷ s) is h =
-    same_symbols (holds (static_instance l tt) s) (past_static (instance_open l ∷ s)) t (goes_on (static_instance l tt) s x) (λ w. refl)
-    (goes_on_leads x t (static_instance l tt) s is (record { proper = h.0; near = h.1; sound = h.2; seats = seats_by s (static_instance l tt) refl }) (λ i. refl) (λ i. refl))
+static_alone_leads x t (instance_of_open l ∷ s) is h =
+    same_symbols (holds (instance_of_static l tt) s) (past_static (instance_of_open l ∷ s)) t (goes_on (instance_of_static l tt) s x) (λ w. refl)
+    (goes_on_leads x t (instance_of_static l tt) s is (record { proper = h.0; near = h.1; sound = h.2; seats = seats_by s (instance_of_static l tt) refl }) (λ i. refl) (λ i. refl))
 static_alone_leads x t (f ∷ s) is h = tt
 
 pub static_leads : (x : Continuation) (t : Symbol) (s : OpenForms) → Says x t → IsSound s → LeadsOn (past_static s) t (static_step s x)
-static_leads (draws (selects colons)) t s is h = led (past_static s) (past_static_colons s) t _ is h (λ w. refl)
+static_leads (draws (by_select colons)) t s is h = led (past_static s) (past_static_colons s) t _ is h (λ w. refl)
 static_leads x t s is h = static_alone_leads x t s is h
 
 pub static_named : (s : OpenForms) → IsSound s → (x : Member Nothing) → IsMemberName x → IsSoundState (holds (static_member tt x) s)

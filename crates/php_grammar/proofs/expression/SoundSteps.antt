@@ -6,14 +6,14 @@ use Rattle.php_ast.specs.declared.operator.Assign.{Assign}
 use Rattle.php_ast.specs.declared.operator.Assign.TheVariants as setting
 use Rattle.php_ast.specs.declared.operator.ArrayForm.TheVariants as form
 use Rattle.php_ast.specs.Symbol.{Symbol, punct}
-use Rattle.php_ast.specs.expression.Tree.{Leaf, no_piece, parentheses, emptiness, exiting, array, isset, by_value}
-use Rattle.php_ast.specs.expression.Tree.{leaf, enclosed, index, computed, prefix, counted, binary, instance, static_instance, choice, short_choice, assign, yield_nothing, yield_value, yield_pair}
+use Rattle.php_ast.specs.expression.Tree.{Leaf, no_piece, parentheses, emptiness, exiting, array, is_set, by_value}
+use Rattle.php_ast.specs.expression.Tree.{leaf, enclosed, index, computed, prefix, count, binary, instance_of, instance_of_static, choice, short_choice, assign, yield_nothing, yield_value, yield_pair}
 use Rattle.php_ast.specs.expression.Tree.{Items, none, and, Lead, plain, reference, spread, keyed, keyed_reference, value, class_found, step_index}
 use Rattle.php_ast.specs.expression.Spelling.{spell, spell_items}
-use Rattle.php_ast.specs.expression.Proper.{free, top, power, ends, takes_arrow, ends_bare, is_call, IsOperand, AreProperItems, Proper, IsKey}
-use Rattle.php_grammar.specs.expression.Sign.{Beginning, is_leaf, is_static, is_quote, is_exit, is_new, is_yield, encloses, lists, prefixes, begins_nothing, beginning, Draw, joins, checks, chooses, sets, counts, applies, subscripts, selects, Closer, paren, bracket, brace, comma as closing_comma, double_arrow, colon, part_end, Continuation, draws, closes, neither, continuation, draw_strength, strength_of, is_arrow, ends_yield}
-use Rattle.php_grammar.specs.expression.Machine.{Nothing, Form, Holder, of_call, of_new, of_list, OpenForm, enclosed_open, items_open, index_open, computed_open, step_open, part_open, then_open, else_open, prefix_open, binary_open, instance_open, assign_open, yield_open, yield_value_open, OpenForms, State, expects, holds, due_enclosed, due_listed, past_items, past_value, past_exit, past_static, past_template, past_index, past_arrow, past_new, past_class, past_question, past_assign, past_yield, operand_level, least_power, closed_with, has_paren, holder_closing, is_array, holder_front, opening_parts, Reached, pick, allowed_if, released, after_by, after, assigning, opened_by, keys, closed, closes_in, continued, goes_on, started, start}
-use Rattle.php_grammar.proofs.expression.Signs.{draw_symbol, closer_symbol, Says, continuation_says, BeginningSays, beginning_says, TestSays}
+use Rattle.php_ast.specs.expression.Proper.{operand_level, free, top, power, ends, takes_arrow, ends_bare, is_call, IsOperand, AreProperItems, Proper, IsKey}
+use Rattle.php_grammar.specs.expression.Role.{Beginning, at_leaf, at_static, at_template, at_exit, at_new, at_yield, at_enclosed, at_listed, at_prefix, at_nothing, beginning, Draw, by_binary, by_instance_of, by_choice, by_assign, by_count, by_call, by_index, by_select, Closer, paren, bracket, brace, comma as closing_comma, double_arrow, colon, part_end, Continuation, draws, closes, neither, continuation, draw_strength, strength_of, is_arrow, ends_yield}
+use Rattle.php_grammar.specs.expression.Machine.{Nothing, Form, Holder, of_call, of_new, of_list, OpenForm, enclosed_open, items_open, index_open, computed_open, step_open, part_open, then_open, else_open, prefix_open, binary_open, instance_of_open, assign_open, yield_open, yield_value_open, OpenForms, State, expects, holds, due_enclosed, due_listed, past_items, past_value, past_exit, past_static, past_template, past_index, past_arrow, past_new, past_class, past_question, past_assign, past_yield, least_power, closed_with, has_paren, holder_closing, is_array, holder_front, opening_parts, Reached, pick, allowed_if, released, after_by, after, assigning, opened_by, keys, closed, closes_in, continued, goes_on, started, start}
+use Rattle.php_grammar.proofs.expression.Roles.{draw_symbol, closer_symbol, Says, continuation_says, BeginningSays, beginning_says, TestSays}
 use Rattle.php_grammar.proofs.expression.Sound.{SoundHolder, SoundEnd, IsSound, IsFitting, Closed, IsSoundState, symbols_so_far}
 use Rattle.php_grammar.proofs.expression.Fill.{prefix_bound, edge_bounds, least_power_most, least_power_free, list_more, list_end, closed_proper, closed_power, closed_closed, closed_spells, seats_by}
 use Rattle.php_grammar.proofs.expression.Settle.{ends_top, IsReleased, is_released}
@@ -52,7 +52,7 @@ closed_fits s e p is c sound = record { proper = p; near = omega (arith, is, lea
 
 after_if : (b : Bool) (s : OpenForms) (e : Form) → is_call e ≡ b → Proper e → power e ≡ top → IsSound s → Closed e → IsSoundState (after_by b e s)
 after_if true [] e is p q sound c = (record { proper = p; near = omega arith; sound = sound; seats = tt }, c)
-after_if true (instance_open l ∷ s) e is p q sound c = (is, p, sound, c)
+after_if true (instance_of_open l ∷ s) e is p q sound c = (is, p, sound, c)
 after_if true (f ∷ s) e is p q sound c = (record { proper = p; near = omega (arith, q, least_power_most (f ∷ s)); sound = sound; seats = tt }, c)
 after_if false s e is p q sound c = (closed_fits s e p q is sound, c)
 
@@ -61,7 +61,7 @@ after_good s e p q sound c = after_if (is_call e) s e refl p q sound c
 
 after_written_if : (b : Bool) (s : OpenForms) (e : Form) (w : List Symbol) → symbols_so_far (after_by b e s) w ≡ opening_parts s (spell e w)
 after_written_if true [] e w = refl
-after_written_if true (instance_open l ∷ s) e w = refl
+after_written_if true (instance_of_open l ∷ s) e w = refl
 after_written_if true (f ∷ s) e w = refl
 after_written_if false s e w = refl
 
@@ -70,10 +70,10 @@ after_written s e w = after_written_if (is_call e) s e w
 
 operand_if_open : (e : Form) → free < ends e → IsOperand e
 operand_if_open (prefix spot op e) h = absurd (omega (arith, prefix_bound op))
-operand_if_open (counted e count) h = absurd (omega arith)
+operand_if_open (count e way) h = absurd (omega arith)
 operand_if_open (binary op l r) h = absurd (omega (arith, edge_bounds op))
-operand_if_open (instance l r) h = absurd (omega arith)
-operand_if_open (static_instance l spot) h = absurd (omega arith)
+operand_if_open (instance_of l r) h = absurd (omega arith)
+operand_if_open (instance_of_static l spot) h = absurd (omega arith)
 operand_if_open (choice c a b) h = absurd (omega arith)
 operand_if_open (short_choice c b) h = absurd (omega arith)
 operand_if_open (assign how l r) h = absurd (omega arith)
@@ -82,24 +82,24 @@ operand_if_open (yield_value spot v) h = absurd (omega arith)
 operand_if_open (yield_pair spot k v) h = absurd (omega arith)
 operand_if_open _ h = omega arith
 
-assigning_leads : (op : Assign) (t : Symbol) (e : Form) (s : OpenForms) → t ≡ draw_symbol (sets op) → IsOperand e → Proper e → least_power s ≤ free → IsSound s
+assigning_leads : (op : Assign) (t : Symbol) (e : Form) (s : OpenForms) → t ≡ draw_symbol (by_assign op) → IsOperand e → Proper e → least_power s ≤ free → IsSound s
     → LeadsOn (holds e s) t (Some (assigning op e s))
 assigning_leads setting.Plain t e s is o p near sound = led (holds e s) (past_assign e s) t _ is (o, p, near, sound) (λ w. refl)
 assigning_leads op t e s is o p near sound = led (holds e s) (expects (assign_open (by_value op) e ∷ s)) t _ is ((o, p), near, sound) (λ w. refl)
 
 pub opened_leads_on : (d : Draw) (t : Symbol) (e : Form) (s : OpenForms) → t ≡ draw_symbol d → draw_strength d < ends e → least_power s ≤ draw_strength d → Proper e → IsSound s
     → LeadsOn (holds e s) t (Some (opened_by d e s))
-opened_leads_on (joins op) t e s is low near p sound = led (holds e s) (expects (binary_open op e ∷ s)) t _ is ((low, p), near, sound) (λ w. refl)
-opened_leads_on checks t e s is low near p sound = led (holds e s) (expects (instance_open e ∷ s)) t _ is ((low, p), near, sound) (λ w. refl)
-opened_leads_on chooses t e s is low near p sound = led (holds e s) (past_question e s) t _ is (low, p, near, sound) (λ w. refl)
-opened_leads_on (sets op) t e s is low near p sound = assigning_leads op t e s is (operand_if_open e low) p near sound
-opened_leads_on (counts c) t e s is low near p sound =
-    led (holds e s) (holds (counted e c) s) t _ is
-    (record { proper = (operand_if_open e low, p); near = near; sound = sound; seats = seats_by s (counted e c) refl }, record { no_arrow = refl; not_bare = refl }) (λ w. refl)
-opened_leads_on applies t e s is low near p sound =
+opened_leads_on (by_binary op) t e s is low near p sound = led (holds e s) (expects (binary_open op e ∷ s)) t _ is ((low, p), near, sound) (λ w. refl)
+opened_leads_on by_instance_of t e s is low near p sound = led (holds e s) (expects (instance_of_open e ∷ s)) t _ is ((low, p), near, sound) (λ w. refl)
+opened_leads_on by_choice t e s is low near p sound = led (holds e s) (past_question e s) t _ is (low, p, near, sound) (λ w. refl)
+opened_leads_on (by_assign op) t e s is low near p sound = assigning_leads op t e s is (operand_if_open e low) p near sound
+opened_leads_on (by_count c) t e s is low near p sound =
+    led (holds e s) (holds (count e c) s) t _ is
+    (record { proper = (operand_if_open e low, p); near = near; sound = sound; seats = seats_by s (count e c) refl }, record { no_arrow = refl; not_bare = refl }) (λ w. refl)
+opened_leads_on by_call t e s is low near p sound =
     led (holds e s) (past_items (of_call e) none s) t _ is (record { holder = (omega arith, p); list = tt; proper = tt }, sound) (λ w. refl)
-opened_leads_on subscripts t e s is low near p sound = led (holds e s) (past_index e s) t _ is (omega arith, p, sound) (λ w. refl)
-opened_leads_on (selects arrow) t e s is low near p sound = led (holds e s) (past_arrow arrow e s) t _ is (omega arith, p, sound) (λ w. refl)
+opened_leads_on by_index t e s is low near p sound = led (holds e s) (past_index e s) t _ is (omega arith, p, sound) (λ w. refl)
+opened_leads_on (by_select arrow) t e s is low near p sound = led (holds e s) (past_arrow arrow e s) t _ is (omega arith, p, sound) (λ w. refl)
 
 -- ---- closing
 
@@ -109,7 +109,7 @@ holder_closing_is (of_new class) is = refl
 holder_closing_is (of_list (array form.Brackets)) is = cc
 holder_closing_is (of_list (array form.Array)) is = refl
 holder_closing_is (of_list (array form.List)) is = refl
-holder_closing_is (of_list isset) is = refl
+holder_closing_is (of_list is_set) is = refl
 
 pub bracket_closing_is : (h : Holder) → has_paren h ≡ false → holder_closing h ≡ punct mark.RightBracket
 bracket_closing_is (of_call f) is = cc
@@ -117,7 +117,7 @@ bracket_closing_is (of_new class) is = cc
 bracket_closing_is (of_list (array form.Brackets)) is = refl
 bracket_closing_is (of_list (array form.Array)) is = cc
 bracket_closing_is (of_list (array form.List)) is = cc
-bracket_closing_is (of_list isset) is = cc
+bracket_closing_is (of_list is_set) is = cc
 
 -- a list, closed by its closing symbol
 pub holder_leads : (h : Holder) (items : Items Nothing) (s : OpenForms) (m : State) (t x : Symbol) → t ≡ x → holder_closing h ≡ x → SoundHolder h → SoundEnd h items → AreProperItems items → IsSound s
@@ -212,25 +212,25 @@ leaf_good : (l : Leaf) (s : OpenForms) → IsSound s → IsSoundState (holds (le
 leaf_good l s sound = (closed_fits s (leaf tt l) tt refl refl sound, record { no_arrow = refl; not_bare = refl })
 
 started_leads_on : (x : Beginning) (t : Symbol) (s : OpenForms) → BeginningSays x t → IsSound s → LeadsOn (expects s) t (started x s)
-started_leads_on (is_leaf l) t s is h = led (expects s) (holds (leaf tt l) s) t _ is (leaf_good l s h) (λ w. refl)
-started_leads_on is_static t s is h = led (expects s) (past_static s) t _ is h (λ w. refl)
-started_leads_on is_quote t s is h = led (expects s) (past_template no_piece s) t _ is (tt, h) (λ w. refl)
-started_leads_on is_exit t s is h = led (expects s) (past_exit s) t _ is h (λ w. refl)
-started_leads_on is_new t s is h = led (expects s) (past_new s) t _ is h (λ w. refl)
-started_leads_on is_yield t s is h =
+started_leads_on (at_leaf l) t s is h = led (expects s) (holds (leaf tt l) s) t _ is (leaf_good l s h) (λ w. refl)
+started_leads_on at_static t s is h = led (expects s) (past_static s) t _ is h (λ w. refl)
+started_leads_on at_template t s is h = led (expects s) (past_template no_piece s) t _ is (tt, h) (λ w. refl)
+started_leads_on at_exit t s is h = led (expects s) (past_exit s) t _ is h (λ w. refl)
+started_leads_on at_new t s is h = led (expects s) (past_new s) t _ is h (λ w. refl)
+started_leads_on at_yield t s is h =
     allowed_leads (nat_lt (least_power s) operand_level) (expects s) (past_yield s) t (λ low. led (expects s) (past_yield s) t _ is (least_power_free s (ltb-true (least_power s) operand_level low), h) (λ w. refl))
-started_leads_on (encloses parentheses) t s is h = led (expects s) (expects (enclosed_open parentheses ∷ s)) t _ is (tt, omega (arith, least_power_most s), h) (λ w. refl)
-started_leads_on (encloses emptiness) t s is h = led (expects s) (due_enclosed emptiness s) t _ is h (λ w. refl)
-started_leads_on (encloses exiting) t s is h = led (expects s) (due_enclosed exiting s) t _ is h (λ w. refl)
-started_leads_on (lists (array form.Brackets)) t s is h =
+started_leads_on (at_enclosed parentheses) t s is h = led (expects s) (expects (enclosed_open parentheses ∷ s)) t _ is (tt, omega (arith, least_power_most s), h) (λ w. refl)
+started_leads_on (at_enclosed emptiness) t s is h = led (expects s) (due_enclosed emptiness s) t _ is h (λ w. refl)
+started_leads_on (at_enclosed exiting) t s is h = led (expects s) (due_enclosed exiting s) t _ is h (λ w. refl)
+started_leads_on (at_listed (array form.Brackets)) t s is h =
     led (expects s) (past_items (of_list (array form.Brackets)) none s) t _ is (record { holder = tt; list = tt; proper = tt }, h) (λ w. refl)
-started_leads_on (lists (array form.Array)) t s is h = led (expects s) (due_listed (array form.Array) s) t _ is (refl, h) (λ w. refl)
-started_leads_on (lists (array form.List)) t s is h = led (expects s) (due_listed (array form.List) s) t _ is (refl, h) (λ w. refl)
-started_leads_on (lists isset) t s is h = led (expects s) (due_listed isset s) t _ is (refl, h) (λ w. refl)
-started_leads_on (prefixes op) t s is h =
+started_leads_on (at_listed (array form.Array)) t s is h = led (expects s) (due_listed (array form.Array) s) t _ is (refl, h) (λ w. refl)
+started_leads_on (at_listed (array form.List)) t s is h = led (expects s) (due_listed (array form.List) s) t _ is (refl, h) (λ w. refl)
+started_leads_on (at_listed is_set) t s is h = led (expects s) (due_listed is_set s) t _ is (refl, h) (λ w. refl)
+started_leads_on (at_prefix op) t s is h =
     allowed_leads (nat_lt (least_power s) operand_level) (expects s) (expects (prefix_open op ∷ s)) t (λ low.
     led (expects s) (expects (prefix_open op ∷ s)) t _ is (tt, least_power_free s (ltb-true (least_power s) operand_level low), h) (λ w. refl))
-started_leads_on begins_nothing t s is h = tt
+started_leads_on at_nothing t s is h = tt
 
 pub start_leads_on : (t : Symbol) (s : OpenForms) → IsSound s → LeadsOn (expects s) t (start s t)
 start_leads_on t s h = started_leads_on (beginning t) t s (beginning_says t) h

@@ -7,14 +7,14 @@ use Rattle.php_ast.specs.declared.operator.Assign.TheVariants as setting
 use Rattle.php_ast.specs.declared.operator.ArrayForm.TheVariants as form
 use Rattle.php_ast.specs.Symbol as symbol
 use Rattle.php_ast.specs.Symbol.{Symbol, keyword, punct}
-use Rattle.php_ast.specs.expression.Tree.{Enclosure, parentheses, emptiness, exiting, Listing, array, isset, by_value, by_reference, Member, named}
-use Rattle.php_ast.specs.expression.Tree.{leaf, template, exit, exit_empty, static_member, append, selected, call, new, static_instance, yield_nothing}
+use Rattle.php_ast.specs.expression.Tree.{Enclosure, parentheses, emptiness, exiting, Listing, array, is_set, by_value, by_reference, Member, named}
+use Rattle.php_ast.specs.expression.Tree.{leaf, template, exit, exit_empty, static_member, append, selected, call, new, instance_of_static, yield_nothing}
 use Rattle.php_ast.specs.expression.Tree.{Items, none, plain, keyed, keyed_reference, class_found, Steps, from, step_property}
 use Rattle.php_ast.specs.expression.Spelling.{spell, list_opening}
-use Rattle.php_ast.specs.expression.Proper.{top, power, ends, ends_bare, is_call, Proper, IsWord}
-use Rattle.php_grammar.specs.expression.Sign.{double_arrow, Continuation, draws, closes, neither, continuation, draw_strength, strength_of, strength, is_arrow, ends_yield, word_of, member_of, item_mark, is_ampersand, is_paren, is_right_paren, is_right_bracket, is_colon}
-use Rattle.php_grammar.specs.expression.Machine.{Nothing, Form, Holder, of_list, enclosed_open, items_open, index_open, then_open, short_open, instance_open, assign_open, yield_open, OpenForms, State, expects, holds, holds_call, due_enclosed, due_listed, past_items, past_value, past_exit, past_exit_paren, past_static, past_static_colons, past_template, past_index, past_arrow, past_new, past_class, past_step, past_question, past_assign, past_yield, operand_level, any, any_symbol, any_member, has_paren, completed_all, missing_end, opening_parts, allowed_if, opened_by, continued, goes_on, start, advance, Reading, halt_short, halt_static, is_last, halt_yield, halt, or_halt, read_from}
-use Rattle.php_grammar.proofs.expression.Signs.{listing_word, Says, continuation_says, item_says, member_says, word_says, TestSays, ampersand_says, paren_says, right_paren_says, right_bracket_says, colon_says}
+use Rattle.php_ast.specs.expression.Proper.{operand_level, top, power, ends, ends_bare, is_call, Proper, IsWord}
+use Rattle.php_grammar.specs.expression.Role.{double_arrow, Continuation, draws, closes, neither, continuation, draw_strength, strength_of, strength, is_arrow, ends_yield, word_of, member_of, item_mark, is_ampersand, is_paren, is_right_paren, is_right_bracket, is_colon}
+use Rattle.php_grammar.specs.expression.Machine.{Nothing, Form, Holder, of_list, enclosed_open, items_open, index_open, then_open, short_open, instance_of_open, assign_open, yield_open, OpenForms, State, expects, holds, holds_call, due_enclosed, due_listed, past_items, past_value, past_exit, past_exit_paren, past_static, past_static_colons, past_template, past_index, past_arrow, past_new, past_class, past_step, past_question, past_assign, past_yield, any, any_symbol, any_member, has_paren, completed_all, missing_end, opening_parts, allowed_if, opened_by, continued, goes_on, start, advance, Reading, halt_short, halt_static, is_last, halt_yield, halt, or_halt, read_from}
+use Rattle.php_grammar.proofs.expression.Roles.{listing_word, Says, continuation_says, item_says, member_says, word_says, TestSays, ampersand_says, paren_says, right_paren_says, right_bracket_says, colon_says}
 use Rattle.php_grammar.proofs.expression.Sound.{SoundItems, IsSound, IsFitting, IsSoundState, symbols_so_far}
 use Rattle.php_grammar.proofs.expression.Fill.{least_power_most, seats_by, completed_all_spells, completed_all_proper, completed_all_bare}
 use Rattle.php_grammar.proofs.expression.Settle.{kept_power, releases_none}
@@ -39,11 +39,11 @@ listing_front : (listing : Listing) → has_paren (of_list listing) ≡ true →
 listing_front (array form.Brackets) is w = cc
 listing_front (array form.Array) is w = refl
 listing_front (array form.List) is w = refl
-listing_front isset is w = refl
+listing_front is_set is w = refl
 
 empty_list : (listing : Listing) → SoundItems (of_list listing) none
 empty_list (array form) = record { holder = tt; list = tt; proper = tt }
-empty_list isset = record { holder = tt; list = tt; proper = tt }
+empty_list is_set = record { holder = tt; list = tt; proper = tt }
 
 due_listed_leads : (listing : Listing) (t : Symbol) (s : OpenForms) → IsSoundState (due_listed listing s)
     → LeadsOn (due_listed listing s) t (allowed_if (is_paren t) (past_items (of_list listing) none s))
@@ -186,9 +186,9 @@ call_open _ is = cc
 
 static_begins : (s : OpenForms) (w : List Symbol) → IsSound s → BeginsFrom (past_static s) w (halt_static s w)
 static_begins [] w h = operand_begins (past_static []) w (static_member tt any_member) [] (punct mark.DoubleColon ∷ any_symbol ∷ []) tt refl refl refl h refl
-static_begins (instance_open l ∷ s) w h =
-    stop_begins_with (past_static (instance_open l ∷ s)) w (static_instance l tt) s (missing_end s)
-    (record { proper = h.0; near = h.1; sound = h.2; seats = seats_by s (static_instance l tt) refl }) refl refl
+static_begins (instance_of_open l ∷ s) w h =
+    stop_begins_with (past_static (instance_of_open l ∷ s)) w (instance_of_static l tt) s (missing_end s)
+    (record { proper = h.0; near = h.1; sound = h.2; seats = seats_by s (instance_of_static l tt) refl }) refl refl
 static_begins (f ∷ s) w h =
     operand_begins (past_static (f ∷ s)) w (static_member tt any_member) (f ∷ s) (punct mark.DoubleColon ∷ any_symbol ∷ missing_end (f ∷ s)) tt refl refl refl h refl
 

@@ -8,13 +8,13 @@ use Rattle.php_ast.specs.declared.operator.Prefix.{Prefix}
 use Rattle.php_ast.specs.declared.operator.Assign.TheVariants as setting
 use Rattle.php_ast.specs.Symbol.{Symbol, keyword, punct}
 use Rattle.php_ast.specs.expression.Tree.{append, selected, static_member, exiting, exit_empty, by_reference, keyed_reference, Leaf, Arrow, thin, colons, by_value, Member, named, reserved, held}
-use Rattle.php_ast.specs.expression.Tree.{leaf, Items, plain, keyed, Class, class_name, class_static, class_found, Steps, step_property, new, static_instance, exit, yield_nothing}
+use Rattle.php_ast.specs.expression.Tree.{leaf, Items, plain, keyed, Class, class_name, class_static, class_found, Steps, step_property, new, instance_of_static, exit, yield_nothing}
 use Rattle.php_ast.specs.expression.Spelling.{leaf_symbol, member_symbol}
 use Rattle.php_ast.specs.Operators.{prefix_symbol}
-use Rattle.php_ast.specs.expression.Proper.{free, ends, is_call, IsWord, IsMemberName}
-use Rattle.php_grammar.specs.expression.Sign.{Draw, applies, subscripts, selects, Continuation, draws, neither, continuation, draw_strength, strength_of, strength, is_arrow, ends_yield, item_mark, is_ampersand, is_paren, is_right_paren, is_right_bracket, is_left_brace, is_colon, member_of}
-use Rattle.php_grammar.specs.expression.Machine.{Nothing, Form, Holder, OpenForm, enclosed_open, items_open, index_open, computed_open, then_open, short_open, prefix_open, instance_open, assign_open, yield_open, OpenForms, State, expects, holds, holds_call, past_items, past_value, past_exit, past_exit_paren, past_static, past_static_colons, past_index, past_arrow, past_class, past_step, past_question, past_assign, past_yield, operand_level, least_power_at, least_power, ends_at, completed, seated, seat_end, completed_all, missing_end, closing_part, pick, allowed_if, released, after_by, after, opened_by, continued, goes_on, started, start, item_step, with_member, class_step, static_step, advance, halt_whole, halt_short, halt_yield, is_last, halt, or_halt, read_from}
-use Rattle.php_grammar.proofs.expression.Signs.{draw_symbol, continuation_draw, beginning_prefix, beginning_leaf, item_says, ampersand_says, paren_says, right_paren_says, right_bracket_says, colon_says, continuation_says, TestSays, word_back, member_back}
+use Rattle.php_ast.specs.expression.Proper.{operand_level, free, ends, is_call, IsWord, IsMemberName}
+use Rattle.php_grammar.specs.expression.Role.{Draw, by_call, by_index, by_select, Continuation, draws, neither, continuation, draw_strength, strength_of, strength, is_arrow, ends_yield, item_mark, is_ampersand, is_paren, is_right_paren, is_right_bracket, is_left_brace, is_colon, member_of}
+use Rattle.php_grammar.specs.expression.Machine.{Nothing, Form, Holder, OpenForm, enclosed_open, items_open, index_open, computed_open, then_open, short_open, prefix_open, instance_of_open, assign_open, yield_open, OpenForms, State, expects, holds, holds_call, past_items, past_value, past_exit, past_exit_paren, past_static, past_static_colons, past_index, past_arrow, past_class, past_step, past_question, past_assign, past_yield, least_power_at, least_power, ends_at, completed, seated, seat_end, completed_all, missing_end, closing_part, pick, allowed_if, released, after_by, after, opened_by, continued, goes_on, started, start, item_step, with_member, class_step, static_step, advance, halt_whole, halt_short, halt_yield, is_last, halt, or_halt, read_from}
+use Rattle.php_grammar.proofs.expression.Roles.{draw_symbol, continuation_draw, beginning_prefix, beginning_leaf, item_says, ampersand_says, paren_says, right_paren_says, right_bracket_says, colon_says, continuation_says, TestSays, word_back, member_back}
 use Rattle.php_grammar.proofs.expression.Fill.{without_end, without_end_call, least_power_most}
 use Rattle.php_grammar.proofs.expression.Settle.{kept_power, releases_none}
 use Rattle.php_grammar.proofs.expression.Trees.{Starts, test_false, item_begins, yield_begins}
@@ -37,7 +37,7 @@ after_low e s h = low_by (is_call e) e s h
     low_by : (b : Bool) (e : Form) (s : OpenForms) → least_power s < 90 → after_by b e s ≡ holds e s
     low_by false e s h = refl
     low_by true e [] h = refl
-    low_by true e (instance_open l ∷ s) h = absurd (omega arith)
+    low_by true e (instance_of_open l ∷ s) h = absurd (omega arith)
     low_by true e (f ∷ s) h = refl
 
 -- ---- behind an expression
@@ -56,11 +56,11 @@ suffix_by : (b : Bool) (d : Draw) (e : Form) (s : OpenForms) (w : List Symbol) �
     → read_from (after_by b e s) (draw_symbol d ∷ w) ≡ read_from (opened_by d e s) w
 suffix_by false d e s w tight low = draws_on d e s w (omega (arith, least_power_most s)) low
 suffix_by true d e [] w tight low = draws_on d e [] w (omega arith) low
-suffix_by true d e (instance_open l ∷ s) w tight low =
-    advances (holds_call e (instance_open l ∷ s)) (opened_by d e (instance_open l ∷ s)) (draw_symbol d) w
-    (ap (λ x. pick (nat_lt operand_level (strength_of x)) (goes_on e (instance_open l ∷ s) x) None) (continuation_draw d)
-    ∙ ap (λ b. pick b (goes_on e (instance_open l ∷ s) (draws d)) None) (lt-ltb operand_level (draw_strength d) tight)
-    ∙ goes_on_draws d e (instance_open l ∷ s) (omega arith) low)
+suffix_by true d e (instance_of_open l ∷ s) w tight low =
+    advances (holds_call e (instance_of_open l ∷ s)) (opened_by d e (instance_of_open l ∷ s)) (draw_symbol d) w
+    (ap (λ x. pick (nat_lt operand_level (strength_of x)) (goes_on e (instance_of_open l ∷ s) x) None) (continuation_draw d)
+    ∙ ap (λ b. pick b (goes_on e (instance_of_open l ∷ s) (draws d)) None) (lt-ltb operand_level (draw_strength d) tight)
+    ∙ goes_on_draws d e (instance_of_open l ∷ s) (omega arith) low)
 suffix_by true d e (f ∷ s) w tight low = draws_on d e (f ∷ s) w (omega (arith, least_power_most (f ∷ s))) low
 
 pub suffix_on : (d : Draw) (e : Form) (s : OpenForms) (w : List Symbol) → 90 < draw_strength d → draw_strength d < ends e
@@ -167,9 +167,9 @@ exit_done s (t ∷ w) h =
     ap (λ b. or_halt (pick b (Some (past_exit_paren s)) (goes_on (exit tt) s (continuation t))) (λ n. read_from n w) (halt_whole (exit tt) s (t ∷ w))) (paren_weight t h)
 
 pub class_by : (x : Continuation) (class : Class Nothing) (s : OpenForms) → strength_of x < 80 → class_step class s x ≡ goes_on (new tt class) s x
-class_by (draws applies) class s h = absurd (omega arith)
-class_by (draws subscripts) class s h = absurd (omega arith)
-class_by (draws (selects arrow)) class s h = absurd (omega arith)
+class_by (draws by_call) class s h = absurd (omega arith)
+class_by (draws by_index) class s h = absurd (omega arith)
+class_by (draws (by_select arrow)) class s h = absurd (omega arith)
 class_by x (class_name spot text) s h = refl
 class_by x (class_static spot) s h = refl
 class_by x (class_found steps) s h = refl
@@ -178,13 +178,13 @@ pub class_done : (class : Class Nothing) (s : OpenForms) (w : List Symbol) → h
 class_done class s [] h = refl
 class_done class s (t ∷ w) h = ap (λ o. or_halt o (λ n. read_from n w) (halt_whole (new tt class) s (t ∷ w))) (class_by (continuation t) class s h)
 
-pub static_by : (x : Continuation) (l : Form) (s : OpenForms) → strength_of x < 80 → static_step (instance_open l ∷ s) x ≡ goes_on (static_instance l tt) s x
-static_by (draws (selects colons)) l s h = absurd (omega arith)
+pub static_by : (x : Continuation) (l : Form) (s : OpenForms) → strength_of x < 80 → static_step (instance_of_open l ∷ s) x ≡ goes_on (instance_of_static l tt) s x
+static_by (draws (by_select colons)) l s h = absurd (omega arith)
 static_by _ l s h = refl
 
-pub static_done : (l : Form) (s : OpenForms) (w : List Symbol) → head_strength w < 80 → read_from (past_static (instance_open l ∷ s)) w ≡ read_from (holds (static_instance l tt) s) w
+pub static_done : (l : Form) (s : OpenForms) (w : List Symbol) → head_strength w < 80 → read_from (past_static (instance_of_open l ∷ s)) w ≡ read_from (holds (instance_of_static l tt) s) w
 static_done l s [] h = refl
-static_done l s (t ∷ w) h = ap (λ o. or_halt o (λ n. read_from n w) (halt_whole (static_instance l tt) s (t ∷ w))) (static_by (continuation t) l s h)
+static_done l s (t ∷ w) h = ap (λ o. or_halt o (λ n. read_from n w) (halt_whole (instance_of_static l tt) s (t ∷ w))) (static_by (continuation t) l s h)
 
 -- ---- names of members
 

@@ -6,23 +6,23 @@ use Rattle.php_ast.specs.declared.operator.Assign.TheVariants as setting
 use Rattle.php_ast.specs.declared.operator.ArrayForm.TheVariants as form
 use Rattle.php_ast.specs.Symbol as symbol
 use Rattle.php_ast.specs.Symbol.{Symbol, keyword, punct}
-use Rattle.php_ast.specs.expression.Tree.{parentheses, emptiness, exiting, array, isset, Arrow, thin, colons, by_value, by_reference, Member}
-use Rattle.php_ast.specs.expression.Tree.{leaf, template, enclosed, listed, exit, exit_empty, static_member, append, index, selected, computed, call, new, new_with, prefix, counted, binary, instance, static_instance, choice, short_choice, assign, yield_nothing, yield_value, yield_pair}
+use Rattle.php_ast.specs.expression.Tree.{parentheses, emptiness, exiting, array, is_set, Arrow, thin, colons, by_value, by_reference, Member}
+use Rattle.php_ast.specs.expression.Tree.{leaf, template, enclosed, listed, exit, exit_empty, static_member, append, index, selected, computed, call, new, new_with, prefix, count, binary, instance_of, instance_of_static, choice, short_choice, assign, yield_nothing, yield_value, yield_pair}
 use Rattle.php_ast.specs.expression.Tree.{Items, none, and, skip, Lead, plain, reference, spread, keyed, keyed_reference, Pieces, no_piece, bytes, value, Class, class_name, class_static, class_found, Steps, from, step_property, step_index}
 use Rattle.php_ast.specs.expression.Spelling.{spell, spell_items, spell_lead, spell_pieces, spell_class, spell_steps, comma, member_symbol}
-use Rattle.php_ast.specs.Power.{binary_row, choice_row, instance_row}
+use Rattle.php_ast.specs.Power.{binary_row, choice_row, instance_of_row}
 use Rattle.php_ast.specs.expression.Proper.{power, ends, ends_bare, IsWord, IsMemberName, Proper, AreProperItems, IsProperLead, AreProperPieces, IsProperClass, AreProperSteps}
 use Rattle.php_ast.specs.expression.Nesting.{nests, nests_items, nests_lead, nests_pieces, nests_class, nests_steps, comma_nests}
-use Rattle.php_grammar.specs.expression.Sign.{joins, checks, chooses, sets, counts, applies, subscripts, selects, is_arrow}
-use Rattle.php_grammar.specs.expression.Machine.{Nothing, Form, Holder, of_call, of_new, of_list, enclosed_open, items_open, index_open, computed_open, step_open, part_open, then_open, else_open, short_open, prefix_open, binary_open, instance_open, assign_open, yield_open, yield_value_open, OpenForms, expects, holds, past_items, past_value, past_exit, past_exit_paren, past_static, past_static_colons, past_template, past_arrow, past_new, past_class, past_step, least_power, ends_at, closed_with, holder_closing, is_array, after}
+use Rattle.php_grammar.specs.expression.Role.{by_binary, by_instance_of, by_choice, by_assign, by_count, by_call, by_index, by_select, is_arrow}
+use Rattle.php_grammar.specs.expression.Machine.{Nothing, Form, Holder, of_call, of_new, of_list, enclosed_open, items_open, index_open, computed_open, step_open, part_open, then_open, else_open, short_open, prefix_open, binary_open, instance_of_open, assign_open, yield_open, yield_value_open, OpenForms, expects, holds, past_items, past_value, past_exit, past_exit_paren, past_static, past_static_colons, past_template, past_arrow, past_new, past_class, past_step, least_power, ends_at, closed_with, holder_closing, is_array, after}
 use Rattle.php_grammar.specs.expression.Depth.{depth, depths_read}
-use Rattle.php_grammar.proofs.expression.Signs.{draw_symbol}
+use Rattle.php_grammar.proofs.expression.Roles.{draw_symbol}
 use Rattle.php_grammar.proofs.expression.Sound.{SoundList, SoundEnd, SoundLead}
 use Rattle.php_grammar.proofs.expression.Fill.{binary_bound, edge_bounds, prefix_bound}
 use Rattle.php_grammar.proofs.expression.Trees.{power_of_left, IsOpen, open_by_ends, operand_ends, Starts, starts}
 use Rattle.php_grammar.proofs.expression.Steps.{head_continuation, head_strength, after_low, member_advances, static_advances, property_advances}
 use Rattle.php_grammar.proofs.expression.ReadBack.{Follows, follows_draw, follows_paren, follows_bracket, follows_comma, follows_close, follows_shut, inside, ends_at_level, not_true, list_lead, list_skip, keyed_array, suffix_low, call_low, operand_near, operator_small}
-use Rattle.php_grammar.proofs.expression.TraceSteps.{counts_on, suffix_count, operator_count, close_count, instance_count, prefix_count, yield_count, leaf_count, index_enters, exit_enters, then_enters, assigned_enters, value_enters, items_enter, yield_enters, exit_ends, class_ends, static_ends, bare_ends_it, behind_suffix}
+use Rattle.php_grammar.proofs.expression.TraceSteps.{counts_on, suffix_count, operator_count, close_count, instance_of_count, prefix_count, yield_count, leaf_count, index_enters, exit_enters, then_enters, assigned_enters, value_enters, items_enter, yield_enters, exit_ends, class_ends, static_ends, bare_ends_it, behind_suffix}
 
 -- ---- names
 
@@ -47,7 +47,7 @@ none_counts (of_new class) s w h = refl
 none_counts (of_list (array form.Brackets)) s w h = refl
 none_counts (of_list (array form.Array)) s w h = refl
 none_counts (of_list (array form.List)) s w h = refl
-none_counts (of_list isset) s w h = let e : true ≡ false = h.1 in cc
+none_counts (of_list is_set) s w h = let e : true ≡ false = h.1 in cc
 
 item_counts : (h : Holder) (items : Items Nothing) (lead : Lead Nothing) (e : Form) (s : OpenForms) (w : List Symbol)
     → depths_read (holds e (items_open h items lead ∷ s)) (holder_closing h ∷ w) ≡ (1 + depth s) ∷ depths_read (after (closed_with h (and items lead e)) s) w
@@ -56,7 +56,7 @@ item_counts (of_new class) items lead e s w = refl
 item_counts (of_list (array form.Brackets)) items lead e s w = refl
 item_counts (of_list (array form.Array)) items lead e s w = refl
 item_counts (of_list (array form.List)) items lead e s w = refl
-item_counts (of_list isset) items lead e s w = refl
+item_counts (of_list is_set) items lead e s w = refl
 
 skip_counts : (h : Holder) (items : Items Nothing) (s : OpenForms) (w : List Symbol) → SoundList h (skip items) → SoundEnd h (skip items)
     → depths_read (past_items h items s) (holder_closing h ∷ w) ≡ (1 + depth s) ∷ depths_read (after (closed_with h (skip items)) s) w
@@ -69,61 +69,61 @@ skip_counts (of_list (array form.Array)) (and items lead e) s w l h = refl
 skip_counts (of_list (array form.Array)) (skip items) s w l h = refl
 skip_counts (of_list (array form.List)) (and items lead e) s w l h = refl
 skip_counts (of_list (array form.List)) (skip items) s w l h = refl
-skip_counts (of_list isset) items s w l h = absurd l
+skip_counts (of_list is_set) items s w l h = absurd l
 
 missing_counts : (h : Holder) (items : Items Nothing) (s : OpenForms) (w : List Symbol) → is_array h ≡ true
     → depths_read (past_items h items s) (punct mark.Comma ∷ w) ≡ (1 + depth s) ∷ depths_read (past_items h (skip items) s) w
 missing_counts (of_call f) items s w h = cc
 missing_counts (of_new class) items s w h = cc
 missing_counts (of_list (array form)) items s w h = refl
-missing_counts (of_list isset) items s w h = cc
+missing_counts (of_list is_set) items s w h = cc
 
 reference_counts : (h : Holder) (items : Items Nothing) (s : OpenForms) (w : List Symbol) → SoundLead h reference
     → depths_read (past_items h items s) (punct mark.Ampersand ∷ w) ≡ (1 + depth s) ∷ depths_read (expects (items_open h items reference ∷ s)) w
 reference_counts (of_call f) items s w h = absurd h
 reference_counts (of_new class) items s w h = absurd h
 reference_counts (of_list (array form)) items s w h = refl
-reference_counts (of_list isset) items s w h = absurd h
+reference_counts (of_list is_set) items s w h = absurd h
 
 spread_counts : (h : Holder) (items : Items Nothing) (s : OpenForms) (w : List Symbol) → SoundLead h spread
     → depths_read (past_items h items s) (punct mark.Ellipsis ∷ w) ≡ (1 + depth s) ∷ depths_read (expects (items_open h items spread ∷ s)) w
 spread_counts (of_call f) items s w h = refl
 spread_counts (of_new class) items s w h = refl
 spread_counts (of_list (array form)) items s w h = absurd h
-spread_counts (of_list isset) items s w h = absurd h
+spread_counts (of_list is_set) items s w h = absurd h
 
 key_counts : (h : Holder) (items : Items Nothing) (k : Form) (s : OpenForms) (w : List Symbol) → is_array h ≡ true
     → depths_read (holds k (items_open h items plain ∷ s)) (punct mark.DoubleArrow ∷ w) ≡ (1 + depth s) ∷ depths_read (past_value h items k s) w
 key_counts (of_call f) items k s w h = cc
 key_counts (of_new class) items k s w h = cc
 key_counts (of_list (array form)) items k s w h = refl
-key_counts (of_list isset) items k s w h = cc
+key_counts (of_list is_set) items k s w h = cc
 
 class_counts : (class : Class Nothing) (s : OpenForms) (w : List Symbol) → depths_read (past_class class s) (punct mark.LeftParen ∷ w) ≡ depth s ∷ depths_read (past_items (of_new class) none s) w
 class_counts (class_name spot text) s w =
-    counts_on (past_class (class_name spot text) s) (past_items (of_new (class_name spot text)) none s) (punct mark.LeftParen) w (depth s) refl (behind_suffix applies s (omega arith))
+    counts_on (past_class (class_name spot text) s) (past_items (of_new (class_name spot text)) none s) (punct mark.LeftParen) w (depth s) refl (behind_suffix by_call s (omega arith))
 class_counts (class_static spot) s w =
-    counts_on (past_class (class_static spot) s) (past_items (of_new (class_static spot)) none s) (punct mark.LeftParen) w (depth s) refl (behind_suffix applies s (omega arith))
+    counts_on (past_class (class_static spot) s) (past_items (of_new (class_static spot)) none s) (punct mark.LeftParen) w (depth s) refl (behind_suffix by_call s (omega arith))
 class_counts (class_found steps) s w =
-    counts_on (past_class (class_found steps) s) (past_items (of_new (class_found steps)) none s) (punct mark.LeftParen) w (depth s) refl (behind_suffix applies s (omega arith))
+    counts_on (past_class (class_found steps) s) (past_items (of_new (class_found steps)) none s) (punct mark.LeftParen) w (depth s) refl (behind_suffix by_call s (omega arith))
 
 arrow_counts : (steps : Steps Nothing) (s : OpenForms) (w : List Symbol) → depths_read (past_class (class_found steps) s) (punct mark.Arrow ∷ w) ≡ depth s ∷ depths_read (past_step steps s) w
 arrow_counts steps s w =
-    counts_on (past_class (class_found steps) s) (past_step steps s) (punct mark.Arrow) w (depth s) refl (behind_suffix (selects thin) s (omega arith))
+    counts_on (past_class (class_found steps) s) (past_step steps s) (punct mark.Arrow) w (depth s) refl (behind_suffix (by_select thin) s (omega arith))
 
 bracket_counts : (steps : Steps Nothing) (s : OpenForms) (w : List Symbol) → depths_read (past_class (class_found steps) s) (punct mark.LeftBracket ∷ w) ≡ depth s ∷ depths_read (expects (step_open steps ∷ s)) w
 bracket_counts steps s w =
-    counts_on (past_class (class_found steps) s) (expects (step_open steps ∷ s)) (punct mark.LeftBracket) w (depth s) refl (behind_suffix subscripts s (omega arith))
+    counts_on (past_class (class_found steps) s) (expects (step_open steps ∷ s)) (punct mark.LeftBracket) w (depth s) refl (behind_suffix by_index s (omega arith))
 
 exit_paren_counts : (s : OpenForms) (w : List Symbol) → depths_read (past_exit s) (punct mark.LeftParen ∷ w) ≡ depth s ∷ depths_read (past_exit_paren s) w
 exit_paren_counts s w =
-    counts_on (past_exit s) (past_exit_paren s) (punct mark.LeftParen) w (depth s) refl (behind_suffix applies s (omega arith))
+    counts_on (past_exit s) (past_exit_paren s) (punct mark.LeftParen) w (depth s) refl (behind_suffix by_call s (omega arith))
 
 static_colons_count : (s : OpenForms) (w : List Symbol) → depths_read (past_static s) (punct mark.DoubleColon ∷ w) ≡ depth s ∷ depths_read (past_static_colons s) w
 static_colons_count [] w = refl
-static_colons_count (instance_open l ∷ s) w =
-    counts_on (past_static (instance_open l ∷ s)) (past_static_colons (instance_open l ∷ s)) (punct mark.DoubleColon) w (depth s) refl
-    (behind_suffix (selects colons) s (omega arith))
+static_colons_count (instance_of_open l ∷ s) w =
+    counts_on (past_static (instance_of_open l ∷ s)) (past_static_colons (instance_of_open l ∷ s)) (punct mark.DoubleColon) w (depth s) refl
+    (behind_suffix (by_select colons) s (omega arith))
 static_colons_count (f ∷ s) w = refl
 
 -- ---- the whole
@@ -143,35 +143,35 @@ mutual
   spelling_depths (listed spot (array form.Brackets) items) s w p near h = ap (λ v. depth s ∷ v) (trace_list (of_list (array form.Brackets)) items s w p.0.0 p.0 p.1)
   spelling_depths (listed spot (array form.Array) items) s w p near h = ap (λ v. depth s ∷ depth s ∷ v) (trace_list (of_list (array form.Array)) items s w p.0.0 p.0 p.1)
   spelling_depths (listed spot (array form.List) items) s w p near h = ap (λ v. depth s ∷ depth s ∷ v) (trace_list (of_list (array form.List)) items s w p.0.0 p.0 p.1)
-  spelling_depths (listed spot isset items) s w p near h = ap (λ v. depth s ∷ depth s ∷ v) (trace_list (of_list isset) items s w p.0.0 p.0 p.1)
+  spelling_depths (listed spot is_set items) s w p near h = ap (λ v. depth s ∷ depth s ∷ v) (trace_list (of_list is_set) items s w p.0.0 p.0 p.1)
   spelling_depths (exit spot) s w p near h = ap (λ v. depth s ∷ v) (exit_ends s w h.low)
   spelling_depths (exit_empty spot) s w p near h = ap (λ v. depth s ∷ v) (exit_paren_counts s (punct mark.RightParen ∷ w))
   spelling_depths (static_member spot m) s w p near h =
       ap (λ v. depth s ∷ v) (static_colons_count s (member_symbol m ∷ w) ∙ ap (λ v. depth s ∷ v) (static_counts m s w p))
   spelling_depths (append e) s w p near h =
-      spelling_depths e s (punct mark.LeftBracket ∷ punct mark.RightBracket ∷ w) p.1 (operand_near e s (omega arith)) (follows_draw subscripts e s (punct mark.RightBracket ∷ w) (suffix_low e p.0))
-      ∙ ap (nests e (depth s)) (suffix_count subscripts e s (punct mark.RightBracket ∷ w) (omega arith) (suffix_low e p.0))
+      spelling_depths e s (punct mark.LeftBracket ∷ punct mark.RightBracket ∷ w) p.1 (operand_near e s (omega arith)) (follows_draw by_index e s (punct mark.RightBracket ∷ w) (suffix_low e p.0))
+      ∙ ap (nests e (depth s)) (suffix_count by_index e s (punct mark.RightBracket ∷ w) (omega arith) (suffix_low e p.0))
   spelling_depths (index e key) s w p near h =
       spelling_depths e s (punct mark.LeftBracket ∷ spell key (punct mark.RightBracket ∷ w)) p.1 (operand_near e s (omega arith))
-      (follows_draw subscripts e s (spell key (punct mark.RightBracket ∷ w)) (suffix_low e p.0))
-      ∙ ap (nests e (depth s)) (suffix_count subscripts e s (spell key (punct mark.RightBracket ∷ w)) (omega arith) (suffix_low e p.0)
+      (follows_draw by_index e s (spell key (punct mark.RightBracket ∷ w)) (suffix_low e p.0))
+      ∙ ap (nests e (depth s)) (suffix_count by_index e s (spell key (punct mark.RightBracket ∷ w)) (omega arith) (suffix_low e p.0)
       ∙ ap (λ v. depth s ∷ v) (index_enters e s (spell key (punct mark.RightBracket ∷ w)) (starts key (punct mark.RightBracket ∷ w))
       ∙ spelling_depths key (index_open e ∷ s) (punct mark.RightBracket ∷ w) p.2 (omega arith) (follows_bracket (index_open e) s key w tt)
       ∙ ap (λ m. nests key (1 + depth s) (depths_read m (punct mark.RightBracket ∷ w))) (after_low key (index_open e ∷ s) (omega arith))))
   spelling_depths (selected e arrow m) s w p near h =
-      spelling_depths e s (draw_symbol (selects arrow) ∷ member_symbol m ∷ w) p.1 (operand_near e s (omega arith)) (follows_draw (selects arrow) e s (member_symbol m ∷ w) (suffix_low e p.0))
-      ∙ ap (nests e (depth s)) (suffix_count (selects arrow) e s (member_symbol m ∷ w) (omega arith) (suffix_low e p.0) ∙ ap (λ v. depth s ∷ v) (member_counts arrow m e s w p.2))
+      spelling_depths e s (draw_symbol (by_select arrow) ∷ member_symbol m ∷ w) p.1 (operand_near e s (omega arith)) (follows_draw (by_select arrow) e s (member_symbol m ∷ w) (suffix_low e p.0))
+      ∙ ap (nests e (depth s)) (suffix_count (by_select arrow) e s (member_symbol m ∷ w) (omega arith) (suffix_low e p.0) ∙ ap (λ v. depth s ∷ v) (member_counts arrow m e s w p.2))
   spelling_depths (computed e key) s w p near h =
       spelling_depths e s (punct mark.Arrow ∷ punct mark.LeftBrace ∷ spell key (punct mark.RightBrace ∷ w)) p.1 (operand_near e s (omega arith))
-      (follows_draw (selects thin) e s (punct mark.LeftBrace ∷ spell key (punct mark.RightBrace ∷ w)) (suffix_low e p.0))
-      ∙ ap (nests e (depth s)) (suffix_count (selects thin) e s (punct mark.LeftBrace ∷ spell key (punct mark.RightBrace ∷ w)) (omega arith) (suffix_low e p.0)
+      (follows_draw (by_select thin) e s (punct mark.LeftBrace ∷ spell key (punct mark.RightBrace ∷ w)) (suffix_low e p.0))
+      ∙ ap (nests e (depth s)) (suffix_count (by_select thin) e s (punct mark.LeftBrace ∷ spell key (punct mark.RightBrace ∷ w)) (omega arith) (suffix_low e p.0)
       ∙ ap (λ v. depth s ∷ depth s ∷ v) (spelling_depths key (computed_open e ∷ s) (punct mark.RightBrace ∷ w) p.3 (omega arith)
       (follows_shut (punct mark.RightBrace) (computed_open e ∷ s) key w refl (λ a. cc) p.2)
       ∙ ap (λ m. nests key (1 + depth s) (depths_read m (punct mark.RightBrace ∷ w))) (after_low key (computed_open e ∷ s) (omega arith))))
   spelling_depths (call f items) s w p near h =
       spelling_depths f s (punct mark.LeftParen ∷ spell_items items (punct mark.RightParen ∷ w)) p.1 (operand_near f s (omega arith))
-      (follows_draw applies f s (spell_items items (punct mark.RightParen ∷ w)) (call_low f p.0))
-      ∙ ap (nests f (depth s)) (suffix_count applies f s (spell_items items (punct mark.RightParen ∷ w)) (omega arith) (call_low f p.0)
+      (follows_draw by_call f s (spell_items items (punct mark.RightParen ∷ w)) (call_low f p.0))
+      ∙ ap (nests f (depth s)) (suffix_count by_call f s (spell_items items (punct mark.RightParen ∷ w)) (omega arith) (call_low f p.0)
       ∙ ap (λ v. depth s ∷ v) (trace_list (of_call f) items s w p.2 p.2 p.3))
   spelling_depths (new spot class) s w p near h =
       ap (λ v. depth s ∷ v) (trace_class class s w p ∙ ap (nests_class class (depth s)) (class_ends class s w h.low))
@@ -185,38 +185,38 @@ mutual
       prefix_count op s (spell e w) near
       ∙ ap (λ v. depth s ∷ v) (spelling_depths e (prefix_open op ∷ s) w p.1 p.0 (inside (prefix_open op) s e w (omega arith) short low h.arrow (λ b. b) h)
       ∙ ap (nests e (1 + depth s)) (close_count (prefix_open op) s e w (omega (arith, prefix_bound op)) short))
-  spelling_depths (counted e count) s w p near h =
-      spelling_depths e s (draw_symbol (counts count) ∷ w) p.1 (operand_near e s (operand_ends e p.0)) (follows_draw (counts count) e s w (operand_ends e p.0))
-      ∙ ap (nests e (depth s)) (operator_count (counts count) e s w (omega arith) near (operand_ends e p.0))
+  spelling_depths (count e way) s w p near h =
+      spelling_depths e s (draw_symbol (by_count way) ∷ w) p.1 (operand_near e s (operand_ends e p.0)) (follows_draw (by_count way) e s w (operand_ends e p.0))
+      ∙ ap (nests e (depth s)) (operator_count (by_count way) e s w (omega arith) near (operand_ends e p.0))
   spelling_depths (binary op l r) s w p near h =
       let low : head_strength w < ends r = omega (arith, h.low) in
       let short : head_strength w < ends_at (is_arrow (head_continuation w)) (binary_open op l) =
       omega (arith, h.low, edge_bounds op, ends_at_level (is_arrow (head_continuation w)) (binary_open op l) refl) in
-      spelling_depths l s (draw_symbol (joins op) ∷ spell r w) p.2 (omega (arith, power_of_left l (binary_row op).power (binary_bound op).0 p.0))
-      (follows_draw (joins op) l s (spell r w) p.0)
-      ∙ ap (nests l (depth s)) (operator_count (joins op) l s (spell r w) (operator_small op) near p.0
+      spelling_depths l s (draw_symbol (by_binary op) ∷ spell r w) p.2 (omega (arith, power_of_left l (binary_row op).power (binary_bound op).0 p.0))
+      (follows_draw (by_binary op) l s (spell r w) p.0)
+      ∙ ap (nests l (depth s)) (operator_count (by_binary op) l s (spell r w) (operator_small op) near p.0
       ∙ ap (λ v. depth s ∷ v) (spelling_depths r (binary_open op l ∷ s) w p.3 p.1 (inside (binary_open op l) s r w (omega (arith, edge_bounds op)) short low h.arrow (λ b. b) h)
       ∙ ap (nests r (depth (binary_open op l ∷ s))) (close_count (binary_open op l) s r w (omega (arith, binary_bound op)) short)))
-  spelling_depths (instance l r) s w p near h =
+  spelling_depths (instance_of l r) s w p near h =
       let opened_by : IsOpen r = open_by_ends r (operand_ends r p.1) in
       let low : head_strength w < ends r = omega (arith, h.low, opened_by.ends_is) in
-      let short : head_strength w < ends_at (is_arrow (head_continuation w)) (instance_open l) =
-      omega (arith, h.low, ends_at_level (is_arrow (head_continuation w)) (instance_open l) refl) in
-      spelling_depths l s (draw_symbol checks ∷ spell r w) p.3 (omega (arith, power_of_left l instance_row.power (omega arith) p.0)) (follows_draw checks l s (spell r w) p.0)
-      ∙ ap (nests l (depth s)) (operator_count checks l s (spell r w) (omega arith) near p.0
-      ∙ ap (λ v. depth s ∷ v) (spelling_depths r (instance_open l ∷ s) w p.4 (omega (arith, opened_by.power_is))
+      let short : head_strength w < ends_at (is_arrow (head_continuation w)) (instance_of_open l) =
+      omega (arith, h.low, ends_at_level (is_arrow (head_continuation w)) (instance_of_open l) refl) in
+      spelling_depths l s (draw_symbol by_instance_of ∷ spell r w) p.3 (omega (arith, power_of_left l instance_of_row.power (omega arith) p.0)) (follows_draw by_instance_of l s (spell r w) p.0)
+      ∙ ap (nests l (depth s)) (operator_count by_instance_of l s (spell r w) (omega arith) near p.0
+      ∙ ap (λ v. depth s ∷ v) (spelling_depths r (instance_of_open l ∷ s) w p.4 (omega (arith, opened_by.power_is))
       (record { low = low; arrow = λ a. opened_by.no_arrow; bare = λ b. let e : ends_bare r ≡ false = opened_by.not_bare in cc })
-      ∙ ap (nests r (depth s)) (instance_count l r s w p.2 short)))
-  spelling_depths (static_instance l spot) s w p near h =
-      spelling_depths l s (draw_symbol checks ∷ keyword word.Static ∷ w) p.1 (omega (arith, power_of_left l instance_row.power (omega arith) p.0)) (follows_draw checks l s (keyword word.Static ∷ w) p.0)
-      ∙ ap (nests l (depth s)) (operator_count checks l s (keyword word.Static ∷ w) (omega arith) near p.0
+      ∙ ap (nests r (depth s)) (instance_of_count l r s w p.2 short)))
+  spelling_depths (instance_of_static l spot) s w p near h =
+      spelling_depths l s (draw_symbol by_instance_of ∷ keyword word.Static ∷ w) p.1 (omega (arith, power_of_left l instance_of_row.power (omega arith) p.0)) (follows_draw by_instance_of l s (keyword word.Static ∷ w) p.0)
+      ∙ ap (nests l (depth s)) (operator_count by_instance_of l s (keyword word.Static ∷ w) (omega arith) near p.0
       ∙ ap (λ v. depth s ∷ depth s ∷ v) (static_ends l s w (omega (arith, h.low))))
   spelling_depths (choice c a b) s w p near h =
       let low : head_strength w < ends b = omega (arith, h.low) in
       let short : head_strength w < ends_at (is_arrow (head_continuation w)) (else_open c a) = omega (arith, h.low, ends_at_level (is_arrow (head_continuation w)) (else_open c a) refl) in
       spelling_depths c s (punct mark.Question ∷ spell a (punct mark.Colon ∷ spell b w)) p.3 (omega (arith, power_of_left c choice_row.power (omega arith) p.0))
-      (follows_draw chooses c s (spell a (punct mark.Colon ∷ spell b w)) p.0)
-      ∙ ap (nests c (depth s)) (operator_count chooses c s (spell a (punct mark.Colon ∷ spell b w)) (omega arith) near p.0
+      (follows_draw by_choice c s (spell a (punct mark.Colon ∷ spell b w)) p.0)
+      ∙ ap (nests c (depth s)) (operator_count by_choice c s (spell a (punct mark.Colon ∷ spell b w)) (omega arith) near p.0
       ∙ ap (λ v. depth s ∷ v) (then_enters c s (spell a (punct mark.Colon ∷ spell b w)) (starts a (punct mark.Colon ∷ spell b w))
       ∙ spelling_depths a (then_open c ∷ s) (punct mark.Colon ∷ spell b w) p.4 (omega arith) (follows_shut (punct mark.Colon) (then_open c ∷ s) a (spell b w) refl (λ x. cc) p.1)
       ∙ ap (nests a (1 + depth s)) (ap (λ m. depths_read m (punct mark.Colon ∷ spell b w)) (after_low a (then_open c ∷ s) (omega arith))
@@ -226,16 +226,16 @@ mutual
       let low : head_strength w < ends b = omega (arith, h.low) in
       let short : head_strength w < ends_at (is_arrow (head_continuation w)) (short_open c) = omega (arith, h.low, ends_at_level (is_arrow (head_continuation w)) (short_open c) refl) in
       spelling_depths c s (punct mark.Question ∷ punct mark.Colon ∷ spell b w) p.2 (omega (arith, power_of_left c choice_row.power (omega arith) p.0))
-      (follows_draw chooses c s (punct mark.Colon ∷ spell b w) p.0)
-      ∙ ap (nests c (depth s)) (operator_count chooses c s (punct mark.Colon ∷ spell b w) (omega arith) near p.0
+      (follows_draw by_choice c s (punct mark.Colon ∷ spell b w) p.0)
+      ∙ ap (nests c (depth s)) (operator_count by_choice c s (punct mark.Colon ∷ spell b w) (omega arith) near p.0
       ∙ ap (λ v. depth s ∷ depth s ∷ v) (spelling_depths b (short_open c ∷ s) w p.3 p.1 (inside (short_open c) s b w (omega arith) short low h.arrow (λ x. x) h)
       ∙ ap (nests b (depth s)) (close_count (short_open c) s b w (omega arith) short)))
   spelling_depths (assign (by_value op) l r) s w p near h =
       let low : head_strength w < ends r = omega (arith, h.low) in
       let short : head_strength w < ends_at (is_arrow (head_continuation w)) (assign_open (by_value op) l) =
       omega (arith, h.low, ends_at_level (is_arrow (head_continuation w)) (assign_open (by_value op) l) refl) in
-      spelling_depths l s (draw_symbol (sets op) ∷ spell r w) p.2 (operand_near l s (operand_ends l p.0)) (follows_draw (sets op) l s (spell r w) (operand_ends l p.0))
-      ∙ ap (nests l (depth s)) (operator_count (sets op) l s (spell r w) (omega arith) near (operand_ends l p.0)
+      spelling_depths l s (draw_symbol (by_assign op) ∷ spell r w) p.2 (operand_near l s (operand_ends l p.0)) (follows_draw (by_assign op) l s (spell r w) (operand_ends l p.0))
+      ∙ ap (nests l (depth s)) (operator_count (by_assign op) l s (spell r w) (omega arith) near (operand_ends l p.0)
       ∙ ap (λ v. depth s ∷ v) (assigned_enters op l s (spell r w) (starts r w)
       ∙ spelling_depths r (assign_open (by_value op) l ∷ s) w p.3 p.1 (inside (assign_open (by_value op) l) s r w (omega arith) short low h.arrow (λ x. x) h)
       ∙ ap (nests r (1 + depth s)) (close_count (assign_open (by_value op) l) s r w (omega arith) short)))
@@ -243,9 +243,9 @@ mutual
       let low : head_strength w < ends r = omega (arith, h.low) in
       let short : head_strength w < ends_at (is_arrow (head_continuation w)) (assign_open by_reference l) =
       omega (arith, h.low, ends_at_level (is_arrow (head_continuation w)) (assign_open by_reference l) refl) in
-      spelling_depths l s (draw_symbol (sets setting.Plain) ∷ punct mark.Ampersand ∷ spell r w) p.2 (operand_near l s (operand_ends l p.0))
-      (follows_draw (sets setting.Plain) l s (punct mark.Ampersand ∷ spell r w) (operand_ends l p.0))
-      ∙ ap (nests l (depth s)) (operator_count (sets setting.Plain) l s (punct mark.Ampersand ∷ spell r w) (omega arith) near (operand_ends l p.0)
+      spelling_depths l s (draw_symbol (by_assign setting.Plain) ∷ punct mark.Ampersand ∷ spell r w) p.2 (operand_near l s (operand_ends l p.0))
+      (follows_draw (by_assign setting.Plain) l s (punct mark.Ampersand ∷ spell r w) (operand_ends l p.0))
+      ∙ ap (nests l (depth s)) (operator_count (by_assign setting.Plain) l s (punct mark.Ampersand ∷ spell r w) (omega arith) near (operand_ends l p.0)
       ∙ ap (λ v. depth s ∷ depth s ∷ v) (spelling_depths r (assign_open by_reference l ∷ s) w p.3 p.1 (inside (assign_open by_reference l) s r w (omega arith) short low h.arrow (λ x. x) h)
       ∙ ap (nests r (1 + depth s)) (close_count (assign_open by_reference l) s r w (omega arith) short)))
   spelling_depths (yield_nothing spot) s w p near h = yield_count s w near ∙ ap (λ v. depth s ∷ v) (bare_ends_it s w (h.bare refl).ends_it)

@@ -8,14 +8,14 @@ use Rattle.php_ast.specs.declared.operator.Prefix.{Prefix}
 use Rattle.php_ast.specs.declared.operator.Assign.{Assign}
 use Rattle.php_ast.specs.declared.operator.Assign.TheVariants as setting
 use Rattle.php_ast.specs.Symbol.{Symbol, keyword, punct}
-use Rattle.php_ast.specs.expression.Tree.{append, exiting, exit_empty, by_reference, keyed_reference, Leaf, by_value, leaf, Items, plain, keyed, Class, new, static_instance, exit, yield_nothing}
+use Rattle.php_ast.specs.expression.Tree.{append, exiting, exit_empty, by_reference, keyed_reference, Leaf, by_value, leaf, Items, plain, keyed, Class, new, instance_of_static, exit, yield_nothing}
 use Rattle.php_ast.specs.expression.Spelling.{leaf_symbol}
 use Rattle.php_ast.specs.Operators.{prefix_symbol}
-use Rattle.php_ast.specs.expression.Proper.{free, ends, is_call}
-use Rattle.php_grammar.specs.expression.Sign.{Draw, draws, continuation, draw_strength, strength_of, is_arrow, ends_yield, item_mark, is_ampersand, is_right_paren, is_right_bracket, is_colon}
-use Rattle.php_grammar.specs.expression.Machine.{Nothing, Form, Holder, OpenForm, enclosed_open, items_open, index_open, then_open, short_open, prefix_open, instance_open, assign_open, yield_open, OpenForms, State, expects, holds, holds_call, past_items, past_value, past_exit, past_exit_paren, past_static, past_index, past_class, past_question, past_assign, past_yield, operand_level, least_power_at, least_power, ends_at, completed, pick, allowed_if, after_by, after, assigning, opened_by, goes_on, started, start, item_step, advance}
+use Rattle.php_ast.specs.expression.Proper.{operand_level, free, ends, is_call}
+use Rattle.php_grammar.specs.expression.Role.{Draw, draws, continuation, draw_strength, strength_of, is_arrow, ends_yield, item_mark, is_ampersand, is_right_paren, is_right_bracket, is_colon}
+use Rattle.php_grammar.specs.expression.Machine.{Nothing, Form, Holder, OpenForm, enclosed_open, items_open, index_open, then_open, short_open, prefix_open, instance_of_open, assign_open, yield_open, OpenForms, State, expects, holds, holds_call, past_items, past_value, past_exit, past_exit_paren, past_static, past_index, past_class, past_question, past_assign, past_yield, least_power_at, least_power, ends_at, completed, pick, allowed_if, after_by, after, assigning, opened_by, goes_on, started, start, item_step, advance}
 use Rattle.php_grammar.specs.expression.Depth.{depth, kept, depth_behind, depth_at, noting, depths_read}
-use Rattle.php_grammar.proofs.expression.Signs.{draw_symbol, continuation_draw, beginning_prefix, beginning_leaf, item_says, ampersand_says, right_paren_says, right_bracket_says, colon_says, continuation_says}
+use Rattle.php_grammar.proofs.expression.Roles.{draw_symbol, continuation_draw, beginning_prefix, beginning_leaf, item_says, ampersand_says, right_paren_says, right_bracket_says, colon_says, continuation_says}
 use Rattle.php_grammar.proofs.expression.Fill.{least_power_most}
 use Rattle.php_grammar.proofs.expression.Settle.{ends_top, kept_power}
 use Rattle.php_grammar.proofs.expression.Trees.{Starts, test_false, item_begins, yield_begins}
@@ -42,11 +42,11 @@ suffix_by : (b : Bool) (d : Draw) (e : Form) (s : OpenForms) (w : List Symbol) �
     → depths_read (after_by b e s) (draw_symbol d ∷ w) ≡ depth s ∷ depths_read (opened_by d e s) w
 suffix_by false d e s w tight low = draws_count d e s w (omega (arith, least_power_most s)) low
 suffix_by true d e [] w tight low = draws_count d e [] w (omega arith) low
-suffix_by true d e (instance_open l ∷ s) w tight low =
-    counts_on (holds_call e (instance_open l ∷ s)) (opened_by d e (instance_open l ∷ s)) (draw_symbol d) w (depth (instance_open l ∷ s))
-    (ap (λ x. pick (nat_lt operand_level (strength_of x)) (goes_on e (instance_open l ∷ s) x) None) (continuation_draw d)
-    ∙ ap (λ b. pick b (goes_on e (instance_open l ∷ s) (draws d)) None) (lt-ltb operand_level (draw_strength d) tight)
-    ∙ goes_on_draws d e (instance_open l ∷ s) (omega arith) low) refl
+suffix_by true d e (instance_of_open l ∷ s) w tight low =
+    counts_on (holds_call e (instance_of_open l ∷ s)) (opened_by d e (instance_of_open l ∷ s)) (draw_symbol d) w (depth (instance_of_open l ∷ s))
+    (ap (λ x. pick (nat_lt operand_level (strength_of x)) (goes_on e (instance_of_open l ∷ s) x) None) (continuation_draw d)
+    ∙ ap (λ b. pick b (goes_on e (instance_of_open l ∷ s) (draws d)) None) (lt-ltb operand_level (draw_strength d) tight)
+    ∙ goes_on_draws d e (instance_of_open l ∷ s) (omega arith) low) refl
 suffix_by true d e (f ∷ s) w tight low = draws_count d e (f ∷ s) w (omega (arith, least_power_most (f ∷ s))) low
 
 pub suffix_count : (d : Draw) (e : Form) (s : OpenForms) (w : List Symbol) → 90 < draw_strength d → draw_strength d < ends e
@@ -69,9 +69,9 @@ pub close_count : (f : OpenForm) (s : OpenForms) (e : Form) (w : List Symbol) �
     → depths_read (after e (f ∷ s)) w ≡ depths_read (holds (completed f e) s) w
 close_count f s e w small short = ap (λ m. depths_read m w) (after_low e (f ∷ s) small) ∙ ended_count f s e w short
 
-pub instance_count : (l e : Form) (s : OpenForms) (w : List Symbol) → is_call e ≡ false → head_strength w < ends_at (is_arrow (head_continuation w)) (instance_open l)
-    → depths_read (after e (instance_open l ∷ s)) w ≡ depths_read (holds (completed (instance_open l) e) s) w
-instance_count l e s w is short = ap (λ b. depths_read (after_by b e (instance_open l ∷ s)) w) is ∙ ended_count (instance_open l) s e w short
+pub instance_of_count : (l e : Form) (s : OpenForms) (w : List Symbol) → is_call e ≡ false → head_strength w < ends_at (is_arrow (head_continuation w)) (instance_of_open l)
+    → depths_read (after e (instance_of_open l ∷ s)) w ≡ depths_read (holds (completed (instance_of_open l) e) s) w
+instance_of_count l e s w is short = ap (λ b. depths_read (after_by b e (instance_of_open l ∷ s)) w) is ∙ ended_count (instance_of_open l) s e w short
 
 -- ---- where an expression begins
 
@@ -144,7 +144,7 @@ pub class_ends : (class : Class Nothing) (s : OpenForms) (w : List Symbol) → h
 class_ends class s [] h = refl
 class_ends class s (t ∷ w) h = ap (λ o. noting o (depth_behind s (continuation t)) (λ n. depths_read n w)) (class_by (continuation t) class s h)
 
-pub static_ends : (l : Form) (s : OpenForms) (w : List Symbol) → head_strength w < 80 → depths_read (past_static (instance_open l ∷ s)) w ≡ depths_read (holds (static_instance l tt) s) w
+pub static_ends : (l : Form) (s : OpenForms) (w : List Symbol) → head_strength w < 80 → depths_read (past_static (instance_of_open l ∷ s)) w ≡ depths_read (holds (instance_of_static l tt) s) w
 static_ends l s [] h = refl
 static_ends l s (t ∷ w) h = ap (λ o. noting o (depth_behind s (continuation t)) (λ n. depths_read n w)) (static_by (continuation t) l s h)
 

@@ -5,14 +5,14 @@ use Rattle.php_ast.specs.declared.operator.Prefix.{Prefix}
 use Rattle.php_ast.specs.declared.operator.Prefix.TheVariants as prefix_op
 use Rattle.php_ast.specs.declared.operator.ArrayForm.TheVariants as form
 use Rattle.php_ast.specs.Symbol.{Symbol, punct}
-use Rattle.php_ast.specs.expression.Tree.{Items, Enclosure, parentheses, emptiness, exiting, Listing, array, isset}
-use Rattle.php_ast.specs.expression.Tree.{leaf, template, enclosed, listed, exit, exit_empty, static_member, append, index, selected, computed, call, new, new_with, prefix, counted, binary, instance, static_instance, choice, short_choice, assign, yield_nothing, yield_value, yield_pair}
+use Rattle.php_ast.specs.expression.Tree.{Items, Enclosure, parentheses, emptiness, exiting, Listing, array, is_set}
+use Rattle.php_ast.specs.expression.Tree.{leaf, template, enclosed, listed, exit, exit_empty, static_member, append, index, selected, computed, call, new, new_with, prefix, count, binary, instance_of, instance_of_static, choice, short_choice, assign, yield_nothing, yield_value, yield_pair}
 use Rattle.php_ast.specs.expression.Spelling.{spell}
 use Rattle.php_ast.specs.Power.{prefix_power}
 use Rattle.php_ast.specs.expression.Proper.{free, top, power, ends, takes_arrow, ends_bare}
-use Rattle.php_grammar.specs.expression.Sign.{Closer, Beginning, begins_nothing, beginning, Continuation, draws, closes, neither, paren, ends_yield, Mark, refers, spreads, ends_item, begins}
+use Rattle.php_grammar.specs.expression.Role.{Closer, Beginning, at_nothing, beginning, Continuation, draws, closes, neither, paren, ends_yield, Mark, refers, spreads, ends_item, begins}
 use Rattle.php_grammar.specs.expression.Machine.{Form}
-use Rattle.php_grammar.proofs.expression.Signs.{closer_symbol, Says, beginning_prefix, beginning_leaf, MarkSays, TestSays}
+use Rattle.php_grammar.proofs.expression.Roles.{closer_symbol, Says, beginning_prefix, beginning_leaf, MarkSays, TestSays}
 use Rattle.php_grammar.proofs.expression.Fill.{prefix_bound, binary_bound, edge_bounds}
 
 -- ---- ends and powers
@@ -47,8 +47,8 @@ bare_ends _ h = cc
 -- where an operator may follow, the tree before it binds no looser than that operator
 pub power_of_left : (e : Form) (n : ℕ) → n ≤ 40 → n < ends e → n ≤ power e
 power_of_left (binary op l r) n small h = omega (arith, edge_bounds op)
-power_of_left (instance l r) n small h = omega arith
-power_of_left (static_instance l spot) n small h = omega arith
+power_of_left (instance_of l r) n small h = omega arith
+power_of_left (instance_of_static l spot) n small h = omega arith
 power_of_left (choice c a b) n small h = omega arith
 power_of_left (short_choice c b) n small h = omega arith
 power_of_left (leaf spot l) n small h = omega arith
@@ -65,10 +65,10 @@ pub record IsOpen (e : Form) : Type 0 where
 
 pub open_by_ends : (e : Form) → free < ends e → IsOpen e
 open_by_ends (prefix spot op e) h = absurd (omega (arith, prefix_bound op))
-open_by_ends (counted e count) h = absurd (omega arith)
+open_by_ends (count e way) h = absurd (omega arith)
 open_by_ends (binary op l r) h = absurd (omega (arith, edge_bounds op))
-open_by_ends (instance l r) h = absurd (omega arith)
-open_by_ends (static_instance l spot) h = absurd (omega arith)
+open_by_ends (instance_of l r) h = absurd (omega arith)
+open_by_ends (instance_of_static l spot) h = absurd (omega arith)
 open_by_ends (choice c a b) h = absurd (omega arith)
 open_by_ends (short_choice c b) h = absurd (omega arith)
 open_by_ends (assign how l r) h = absurd (omega arith)
@@ -82,10 +82,10 @@ open_by_ends _ h = record { power_is = refl; no_arrow = refl; not_bare = refl; e
 
 pub operand_ends : (e : Form) → free < power e → free < ends e
 operand_ends (prefix spot op e) h = absurd (omega arith)
-operand_ends (counted e count) h = absurd (omega arith)
+operand_ends (count e way) h = absurd (omega arith)
 operand_ends (binary op l r) h = absurd (omega (arith, binary_bound op))
-operand_ends (instance l r) h = absurd (omega arith)
-operand_ends (static_instance l spot) h = absurd (omega arith)
+operand_ends (instance_of l r) h = absurd (omega arith)
+operand_ends (instance_of_static l spot) h = absurd (omega arith)
 operand_ends (choice c a b) h = absurd (omega arith)
 operand_ends (short_choice c b) h = absurd (omega arith)
 operand_ends (assign how l r) h = absurd (omega arith)
@@ -97,7 +97,7 @@ operand_ends _ h = omega arith
 -- ---- first symbols
 
 abbrev pub begins_some : Beginning → Bool
-begins_some begins_nothing = false
+begins_some at_nothing = false
 begins_some _ = true
 
 -- The symbols are some, and the first one begins an expression.
@@ -114,7 +114,7 @@ listed_starts : (listing : Listing) (items : Items (Unit {0})) (w : List Symbol)
 listed_starts (array form.Brackets) items w = refl
 listed_starts (array form.Array) items w = refl
 listed_starts (array form.List) items w = refl
-listed_starts isset items w = refl
+listed_starts is_set items w = refl
 
 pub starts : (e : Form) (w : List Symbol) → Starts (spell e w)
 starts (leaf spot l) w = ap begins_some (beginning_leaf l)
@@ -132,10 +132,10 @@ starts (call f items) w = starts f _
 starts (new spot class) w = refl
 starts (new_with spot class items) w = refl
 starts (prefix spot op e) w = ap begins_some (beginning_prefix op)
-starts (counted e count) w = starts e _
+starts (count e way) w = starts e _
 starts (binary op l r) w = starts l _
-starts (instance l r) w = starts l _
-starts (static_instance l spot) w = starts l _
+starts (instance_of l r) w = starts l _
+starts (instance_of_static l spot) w = starts l _
 starts (choice c a b) w = starts c _
 starts (short_choice c b) w = starts c _
 starts (assign how l r) w = starts l _

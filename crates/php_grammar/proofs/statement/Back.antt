@@ -14,7 +14,7 @@ use Rattle.php_grammar.specs.expression.Machine.{Nothing, Form}
 use Rattle.php_ast.specs.statement.Tree.{Sequence, empty, then_also, Name, Jump, Statement, block, blank, inline, expression, echo, globals, statics, unset, constants, jump, throw, if_only, if_else, if_lists, if_else_lists, while, do_while, for, foreach, switch, try_catch, try_finally, declares, returning, breaking, continuing, Statements, no_statement, and_statement, ElseIfs, no_elseif, and_elseif, ElseIfLists, no_elseif_list, and_elseif_list, Body, single, list_behind_colon, Cases, no_case, and_case, Catches, no_catch, and_catch}
 use Rattle.php_ast.specs.statement.Spelling.{commas, separated, spell_name, spell_dollar, spell_variable, spell_optional, spell_label, case_end_symbol, cases_opening, cases_closing, spell_statement, spell_statements, spell_elseifs, spell_elseif_lists, spell_body, spell_cases, spell_catches}
 use Rattle.php_ast.specs.statement.Proper.{takes_else, body_takes, last_takes, last_body, NoneTakes, last_list, NoListTakes, IfAny, AreAny, is_empty, IsProperLabel, IsProper, AreProper, AreProperParts, AreProperLists, IsProperBody, AreProperCases, AreProperCatches}
-use Rattle.php_grammar.specs.statement.Sign.{Behind, by_other, by_while, behind, body_strength}
+use Rattle.php_grammar.specs.statement.Role.{Behind, by_other, by_while, behind, body_strength}
 use Rattle.php_grammar.specs.statement.Forms.{list_open, Loop, while_loop, for_loop, foreach_loop, StatementList, of_block, of_if, of_elseif, of_else, of_loop, of_case, of_try, of_catch, of_finally, if_open, elseif_open, else_open, loop_open, do_open, Around, if_head, elseif_head, elseif_list_head, while_head, do_head, switch_head, of_echo, of_unset, of_starts, of_tests, of_steps, as_line, as_jump, as_thrown, as_test, as_walked, as_label, of_classes, StatementState, due_statement, done, due_in_list, due_value, due_name, past_jump, past_loop, past_switch, due_case, past_default, past_block, looped}
 use Rattle.php_grammar.specs.statement.Machine.{expected, labelled, before_semicolon}
 use Rattle.php_grammar.specs.statement.Reading.{loop_word}

@@ -3,7 +3,7 @@ use Rattle.std.proofs.Common.{◌≡◌, ℕ, ◌+◌, Option, Some, None, refl,
 use Rattle.php_ast.specs.expression.Tree.{Tree}
 use Rattle.php_ast.specs.expression.Placed.{Notes, size, size_items}
 use Rattle.php_ast.specs.statement.Tree.{Sequence, empty, then_also, Name, Variable, Constant, Target, Statement, block, blank, inline, expression, echo, globals, statics, unset, constants, jump, throw, if_only, if_else, if_lists, if_else_lists, while, do_while, for, foreach, switch, try_catch, try_finally, declares, Statements, no_statement, and_statement, ElseIfs, no_elseif, and_elseif, ElseIfLists, no_elseif_list, and_elseif_list, Body, single, list_behind_colon, Cases, no_case, and_case, Catches, no_catch, and_catch}
-use Rattle.php_ast.specs.statement.Placed.{size_separator, size_separated, noted_separated, size_name, noted_name, size_optional, noted_optional, size_value, size_variable, noted_variable, size_constant, noted_constant, size_target, noted_target, size_sign, size_key, noted_key, size_head, size_statement, size_statements, size_elseifs, size_elseif_lists, size_body, size_cases, size_catches, noted_statement, noted_statements, noted_elseifs, noted_elseif_lists, noted_body, noted_cases, noted_catches}
+use Rattle.php_ast.specs.statement.Placed.{size_separator, size_separated, noted_separated, size_name, noted_name, size_optional, noted_optional, size_value, size_variable, noted_variable, size_constant, noted_constant, size_target, noted_target, size_if, size_key, noted_key, size_head, size_statement, size_statements, size_elseifs, size_elseif_lists, size_body, size_cases, size_catches, noted_statement, noted_statements, noted_elseifs, noted_elseif_lists, noted_body, noted_cases, noted_catches}
 use Rattle.php_grammar.proofs.expression.Notes.{size_noted, items_noted, again, items_again}
 
 -- ---- sequences
@@ -59,10 +59,10 @@ constant_again : {S T U : Type 0} (f : Notes T) (g : Notes U) (i at : ℕ) (x : 
 constant_again f g i at x = cc (again f g (i + 2) (at + 2) x.value)
 
 target_noted : {S T : Type 0} (f : Notes T) (at : ℕ) (t : Target S) → size_target (noted_target f at t) ≡ size_target t
-target_noted f at t = cc (size_noted f (at + size_sign t.is_reference) t.place)
+target_noted f at t = cc (size_noted f (at + size_if t.is_reference) t.place)
 
 target_again : {S T U : Type 0} (f : Notes T) (g : Notes U) (i at : ℕ) (t : Target S) → noted_target g at (noted_target f i t) ≡ noted_target g at t
-target_again f g i at t = cc (again f g (i + size_sign t.is_reference) (at + size_sign t.is_reference) t.place)
+target_again f g i at t = cc (again f g (i + size_if t.is_reference) (at + size_if t.is_reference) t.place)
 
 key_noted : {S T : Type 0} (f : Notes T) (at : ℕ) (key : Option (Target S)) → size_key (noted_key f at key) ≡ size_key key
 key_noted f at None = refl

@@ -10,16 +10,16 @@ use Rattle.php_ast.specs.Symbol.{Symbol, keyword, punct}
 use Rattle.php_ast.specs.expression.Tree.{Items, none, and, skip, plain, reference, spread, keyed, keyed_reference}
 use Rattle.php_ast.specs.expression.Spelling.{spell, spell_items}
 use Rattle.php_ast.specs.expression.Proper.{Proper, ends_bare, IsKey, AreValues, AreProperItems, is_none}
-use Rattle.php_grammar.specs.expression.Sign.{beginning}
+use Rattle.php_grammar.specs.expression.Role.{beginning}
 use Rattle.php_grammar.specs.expression.Machine.{Nothing, Form, expects, pick}
 use Rattle.php_grammar.specs.expression.Laws.{EndsBefore}
 use Rattle.php_grammar.specs.Run.{either, or_halted}
 use Rattle.php_ast.specs.statement.Tree.{Sequence, empty, then_also, Name, Variable, Constant, Target, Jump, Statement, statics, constants, jump, Statements, Catches, and_catch, try_catch}
 use Rattle.php_ast.specs.statement.Spelling.{separated, commas, spell_name, spell_dollar, spell_value, spell_variable, spell_constant, spell_target, spell_key}
 use Rattle.php_ast.specs.statement.Proper.{Each, IfAny, AreSome, AreAny, IsProperTarget, IsProperKey}
-use Rattle.php_grammar.specs.statement.Sign.{at_expression, statement_beginning, statement_keyword, statement_punct, Behind, by_else, by_catch, by_finally, behind, body_strength, ending}
+use Rattle.php_grammar.specs.statement.Role.{at_expression, statement_beginning, statement_keyword, statement_punct, Behind, by_else, by_catch, by_finally, behind, body_strength, ending}
 use Rattle.php_grammar.specs.statement.Forms.{of_if, of_loop, list_open, if_open, elseif_open, else_open, loop_open, do_open, OpenStatement, Around, Loop, foreach_loop, Values, ExpressionPlace, as_line, as_value, as_static, as_constant, as_jump, as_first, as_second, of_globals, of_statics, of_constants, of_classes, StatementState, due_statement, done, in_expression, due_value, due_name, past_name, past_static_word, past_jump, past_if, past_loop, past_as, past_key, past_block, completed_statement}
-use Rattle.php_grammar.specs.statement.Machine.{body_level, released_bodies, reached_step, expected, entered, listing, begun, begin, values_step, filled, target, block_step, past_statement, advance_statement}
+use Rattle.php_grammar.specs.statement.Machine.{least_strength, released_bodies, reached_step, expected, entered, listing, begun, begin, values_step, filled, target, block_step, past_statement, advance_statement}
 use Rattle.php_grammar.specs.statement.Reading.{halt_statement}
 use Rattle.php_grammar.specs.statement.Laws.{is_catching, head_behind}
 use Rattle.php_grammar.proofs.expression.Trees.{begins_some, Starts, starts}
@@ -290,7 +290,7 @@ targets_read walked (Some key) value o w k p =
 
 -- ---- the end of a body
 
-halts_ended : (f : OpenStatement) (a : Statement Nothing) (o : Around) (w : List Symbol) (n : ℕ) → nat_lt n (body_level f) ≡ true → halt_statement (done a (f ∷ o)) w ≡ halt_statement (done (completed_statement f a) o) w
+halts_ended : (f : OpenStatement) (a : Statement Nothing) (o : Around) (w : List Symbol) (n : ℕ) → nat_lt n (least_strength f) ≡ true → halt_statement (done a (f ∷ o)) w ≡ halt_statement (done (completed_statement f a) o) w
 halts_ended (list_open list ss) a o w n h = absurd (omega (arith, ltb-true, h))
 halts_ended do_open a o w n h = absurd (omega (arith, ltb-true, h))
 halts_ended (if_open test) a o w n h = refl
@@ -299,7 +299,7 @@ halts_ended (else_open test body parts) a o w n h = refl
 halts_ended (loop_open loop) a o w n h = refl
 
 -- a body that the first symbol ends
-pub body_ended : (f : OpenStatement) (a : Statement Nothing) (o : Around) (w : List Symbol) → nat_lt (body_strength (head_behind w)) (body_level f) ≡ true
+pub body_ended : (f : OpenStatement) (a : Statement Nothing) (o : Around) (w : List Symbol) → nat_lt (body_strength (head_behind w)) (least_strength f) ≡ true
     → run (done a (f ∷ o)) w ≡ run (done (completed_statement f a) o) w
 body_ended f a o [] h = halts_ended f a o [] 0 h
 body_ended f a o (t ∷ w) h =
@@ -311,10 +311,10 @@ pub strength_small : (x : Behind) → nat_lt (body_strength x) 2 ≡ true
 strength_small by_else = refl
 strength_small _ = refl
 
-pub last_ended : (f : OpenStatement) (a : Statement Nothing) (o : Around) (w : List Symbol) → body_level f ≡ 2 → run (done a (f ∷ o)) w ≡ run (done (completed_statement f a) o) w
+pub last_ended : (f : OpenStatement) (a : Statement Nothing) (o : Around) (w : List Symbol) → least_strength f ≡ 2 → run (done a (f ∷ o)) w ≡ run (done (completed_statement f a) o) w
 last_ended f a o w h = body_ended f a o w (ap (nat_lt (body_strength (head_behind w))) h ∙ strength_small (head_behind w))
 
-pub if_ended : (f : OpenStatement) (a : Statement Nothing) (o : Around) (w : List Symbol) → body_level f ≡ 1 → body_strength (head_behind w) ≡ 0 → run (done a (f ∷ o)) w ≡ run (done (completed_statement f a) o) w
+pub if_ended : (f : OpenStatement) (a : Statement Nothing) (o : Around) (w : List Symbol) → least_strength f ≡ 1 → body_strength (head_behind w) ≡ 0 → run (done a (f ∷ o)) w ≡ run (done (completed_statement f a) o) w
 if_ended f a o w level h = body_ended f a o w (ap (nat_lt (body_strength (head_behind w))) level ∙ ap (λ n. nat_lt n 1) h)
 
 pub catches_ended_by : (x : Behind) (body : Statements Nothing) (catches : Catches Nothing) (classes : Sequence (Name Nothing)) (n : Name Nothing) (ss : Statements Nothing) (o : Around) (t : Symbol)

@@ -8,7 +8,7 @@ use Rattle.php_ast.specs.declared.statement.CaseEnd.TheVariants as case_end
 use Rattle.php_ast.specs.declared.operator.Count.TheVariants as count
 use Rattle.php_ast.specs.Symbol as symbol
 use Rattle.php_ast.specs.Symbol.{Symbol, keyword, punct}
-use Rattle.php_ast.specs.expression.Tree.{variable, held, leaf, static_member, counted, choice, yield_nothing, yield_value, yield_pair, none, and, plain}
+use Rattle.php_ast.specs.expression.Tree.{variable, held, leaf, static_member, count, choice, yield_nothing, yield_value, yield_pair, none, and, plain}
 use Rattle.php_grammar.specs.expression.Machine.{Form, Nothing, any, any_symbol}
 use Rattle.php_ast.specs.statement.Tree.{empty, then_also, Name, Target, Statement, block, blank, inline, expression, echo, globals, statics, unset, constants, jump, throw, if_only, if_else, if_lists, if_else_lists, while, do_while, for, foreach, switch, try_catch, try_finally, declares, returning, breaking, continuing, Statements, no_statement, and_statement, no_elseif, and_elseif, no_elseif_list, and_elseif_list, single, list_behind_colon, no_case, and_case, no_catch, and_catch}
 use Rattle.php_ast.specs.statement.Spelling.{spell_statement}
@@ -181,7 +181,7 @@ read_for_ever : IsRead (for tt none none none (single (blank tt)))
 read_for_ever = (refl, refl)
 
 read_for :
-    IsRead (for tt (and (and none plain (v 97)) plain (v 98)) (and none plain (v 99)) (and none plain (counted (v 100) count.Up)) (single (block tt no_statement)))
+    IsRead (for tt (and (and none plain (v 97)) plain (v 98)) (and none plain (v 99)) (and none plain (count (v 100) count.Up)) (single (block tt no_statement)))
 read_for = (refl, refl)
 
 read_endfor : IsRead (for tt none none none (list_behind_colon (one (line 97))))

@@ -5,7 +5,7 @@ use Rattle.php_ast.specs.declared.statement.SwitchForm.TheVariants as switch_for
 use Rattle.php_ast.specs.expression.Tree.{Tree}
 use Rattle.php_ast.specs.expression.Nesting.{nests, nests_items}
 use Rattle.php_ast.specs.statement.Tree.{Sequence, empty, then_also, Name, Variable, Constant, Target, Statement, block, blank, inline, expression, echo, globals, statics, unset, constants, jump, throw, if_only, if_else, if_lists, if_else_lists, while, do_while, for, foreach, switch, try_catch, try_finally, declares, Statements, no_statement, and_statement, ElseIfs, no_elseif, and_elseif, ElseIfLists, no_elseif_list, and_elseif_list, Body, single, list_behind_colon, Cases, no_case, and_case, Catches, no_catch, and_catch}
-use Rattle.php_ast.specs.statement.Nesting.{separator_nests, separated_nests, name_nests, value_nests, variable_nests, constant_nests, optional_nests, sign_nests, target_nests, key_nests, head_nests, body_depth, cases_end_nests, nests_statement, nests_statements, nests_elseifs, nests_elseif_lists, nests_body, nests_cases, nests_catches}
+use Rattle.php_ast.specs.statement.Nesting.{separator_nests, separated_nests, name_nests, value_nests, variable_nests, constant_nests, optional_nests, nests_if, target_nests, key_nests, head_nests, body_depth, cases_end_nests, nests_statement, nests_statements, nests_elseifs, nests_elseif_lists, nests_body, nests_cases, nests_catches}
 use Rattle.php_grammar.proofs.Deepened.{shifted}
 use Rattle.php_grammar.proofs.expression.Shifts.{one_more, nests_shift, items_shift}
 
@@ -25,9 +25,9 @@ separated_shift each h (then_also xs x) d k ns w =
 pub name_shift : {S : Type 0} (n : Name S) (d k : ℕ) (ns w : List ℕ) → name_nests n (d + k) (shifted k ns w) ≡ shifted k (name_nests n d ns) w
 name_shift n d k ns w = refl
 
-pub sign_shift : (b : Bool) (d k : ℕ) (ns w : List ℕ) → sign_nests b (d + k) (shifted k ns w) ≡ shifted k (sign_nests b d ns) w
-sign_shift true d k ns w = refl
-sign_shift false d k ns w = refl
+pub shift_if : (b : Bool) (d k : ℕ) (ns w : List ℕ) → nests_if b (d + k) (shifted k ns w) ≡ shifted k (nests_if b d ns) w
+shift_if true d k ns w = refl
+shift_if false d k ns w = refl
 
 pub value_shift : {S : Type 0} (x : Option (Tree S)) (d k : ℕ) (ns w : List ℕ) → value_nests x (d + k) (shifted k ns w) ≡ shifted k (value_nests x d ns) w
 value_shift None d k ns w = refl
@@ -44,7 +44,7 @@ optional_shift None d k ns w = refl
 optional_shift (Some e) d k ns w = nests_shift e d k ns w
 
 pub target_shift : {S : Type 0} (x : Target S) (d k : ℕ) (ns w : List ℕ) → target_nests x (d + k) (shifted k ns w) ≡ shifted k (target_nests x d ns) w
-target_shift t d k ns w = ap (λ u. sign_nests t.is_reference (d + k) u) (nests_shift t.place d k ns w) ∙ sign_shift t.is_reference d k (nests t.place d ns) w
+target_shift t d k ns w = ap (λ u. nests_if t.is_reference (d + k) u) (nests_shift t.place d k ns w) ∙ shift_if t.is_reference d k (nests t.place d ns) w
 
 pub key_shift : {S : Type 0} (x : Option (Target S)) (d k : ℕ) (ns w : List ℕ) → key_nests x (d + k) (shifted k ns w) ≡ shifted k (key_nests x d ns) w
 key_shift None d k ns w = refl

@@ -9,21 +9,21 @@ use Rattle.php_ast.specs.Symbol.{Symbol, keyword, punct}
 use Rattle.php_ast.specs.expression.Tree.{Tree}
 use Rattle.php_ast.specs.expression.Spelling.{spell, spell_items}
 use Rattle.php_ast.specs.statement.Tree.{Sequence, empty, then_also, Name, Variable, Constant, Target, Statement, block, blank, inline, expression, echo, globals, statics, unset, constants, jump, throw, if_only, if_else, if_lists, if_else_lists, while, do_while, for, foreach, switch, try_catch, try_finally, declares, Statements, no_statement, and_statement, ElseIfs, no_elseif, and_elseif, ElseIfLists, no_elseif_list, and_elseif_list, Body, single, list_behind_colon, Cases, no_case, and_case, Catches, no_catch, and_catch}
-use Rattle.php_ast.specs.statement.Spelling.{separator, separated, spell_name, spell_dollar, spell_value, spell_variable, spell_constant, spell_optional, sign_if, spell_target, spell_key, spell_head, spell_label, case_end_symbol, cases_opening, cases_closing, spell_statement, spell_statements, spell_elseifs, spell_elseif_lists, spell_body, spell_cases, spell_catches}
-use Rattle.php_ast.specs.statement.Placed.{size_separator, size_separated, size_name, size_optional, size_value, size_variable, size_constant, size_sign, size_target, size_key, size_head, size_cases_end, size_statement, size_statements, size_elseifs, size_elseif_lists, size_body, size_cases, size_catches}
+use Rattle.php_ast.specs.statement.Spelling.{separator, separated, spell_name, spell_dollar, spell_value, spell_variable, spell_constant, spell_optional, symbol_if, spell_target, spell_key, spell_head, spell_label, case_end_symbol, cases_opening, cases_closing, spell_statement, spell_statements, spell_elseifs, spell_elseif_lists, spell_body, spell_cases, spell_catches}
+use Rattle.php_ast.specs.statement.Placed.{size_separator, size_separated, size_name, size_optional, size_value, size_variable, size_constant, size_if, size_target, size_key, size_head, size_cases_end, size_statement, size_statements, size_elseifs, size_elseif_lists, size_body, size_cases, size_catches}
 use Rattle.php_grammar.proofs.expression.Sizes.{spell_length, items_length}
 
 -- ---- parts
 
-separator_length : {A : Type 0} (sign : Symbol) (xs : Sequence A) (w : List Symbol) → length (separator sign xs w) ≡ size_separator xs + length w
-separator_length sign empty w = omega arith
-separator_length sign (then_also xs x) w = omega arith
+separator_length : {A : Type 0} (between : Symbol) (xs : Sequence A) (w : List Symbol) → length (separator between xs w) ≡ size_separator xs + length w
+separator_length between empty w = omega arith
+separator_length between (then_also xs x) w = omega arith
 
-pub separated_length : {A : Type 0} (sign : Symbol) (each : A → List Symbol → List Symbol) (size_each : A → ℕ) → ((x : A) (w : List Symbol) → length (each x w) ≡ size_each x + length w)
-    → (xs : Sequence A) (w : List Symbol) → length (separated sign each xs w) ≡ size_separated size_each xs + length w
-separated_length sign each size_each h empty w = omega arith
-separated_length sign each size_each h (then_also xs x) w =
-    omega (arith, separated_length sign each size_each h xs (separator sign xs (each x w)), separator_length sign xs (each x w), h x w)
+pub separated_length : {A : Type 0} (between : Symbol) (each : A → List Symbol → List Symbol) (size_each : A → ℕ) → ((x : A) (w : List Symbol) → length (each x w) ≡ size_each x + length w)
+    → (xs : Sequence A) (w : List Symbol) → length (separated between each xs w) ≡ size_separated size_each xs + length w
+separated_length between each size_each h empty w = omega arith
+separated_length between each size_each h (then_also xs x) w =
+    omega (arith, separated_length between each size_each h xs (separator between xs (each x w)), separator_length between xs (each x w), h x w)
 
 pub name_length : {S : Type 0} (n : Name S) (w : List Symbol) → length (spell_name n w) ≡ size_name n + length w
 name_length n w = omega arith
@@ -45,12 +45,12 @@ optional_length : {S : Type 0} (value : Option (Tree S)) (w : List Symbol) → l
 optional_length None w = omega arith
 optional_length (Some e) w = omega (arith, spell_length e w)
 
-pub sign_length : (b : Bool) (sign : Symbol) (w : List Symbol) → length (sign_if b sign w) ≡ size_sign b + length w
-sign_length true sign w = omega arith
-sign_length false sign w = omega arith
+pub length_if : (b : Bool) (between : Symbol) (w : List Symbol) → length (symbol_if b between w) ≡ size_if b + length w
+length_if true between w = omega arith
+length_if false between w = omega arith
 
 target_length : {S : Type 0} (t : Target S) (w : List Symbol) → length (spell_target t w) ≡ size_target t + length w
-target_length t w = omega (arith, sign_length t.is_reference (punct mark.Ampersand) (spell t.place w), spell_length t.place w)
+target_length t w = omega (arith, length_if t.is_reference (punct mark.Ampersand) (spell t.place w), spell_length t.place w)
 
 key_length : {S : Type 0} (key : Option (Target S)) (w : List Symbol) → length (spell_key key w) ≡ size_key key + length w
 key_length None w = omega arith

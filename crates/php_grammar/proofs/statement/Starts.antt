@@ -10,17 +10,17 @@ use Rattle.php_ast.specs.declared.operator.Prefix.TheVariants as prefix_op
 use Rattle.php_ast.specs.declared.statement.SwitchForm.TheVariants as switch_form
 use Rattle.php_ast.specs.Symbol as symbol
 use Rattle.php_ast.specs.Symbol.{Symbol, keyword, punct}
-use Rattle.php_ast.specs.expression.Tree.{Leaf, magic, parentheses, emptiness, exiting, array, isset}
-use Rattle.php_ast.specs.expression.Tree.{leaf, template, enclosed, listed, static_member, append, index, selected, computed, call, prefix, counted, binary, instance, static_instance, choice, short_choice, assign}
+use Rattle.php_ast.specs.expression.Tree.{Leaf, magic, parentheses, emptiness, exiting, array, is_set}
+use Rattle.php_ast.specs.expression.Tree.{leaf, template, enclosed, listed, static_member, append, index, selected, computed, call, prefix, count, binary, instance_of, instance_of_static, choice, short_choice, assign}
 use Rattle.php_ast.specs.Operators.{prefix_symbol}
 use Rattle.php_ast.specs.declared.operator.Magic.TheVariants as magic_word
 use Rattle.php_ast.specs.expression.Spelling.{spell, leaf_symbol}
-use Rattle.php_grammar.specs.expression.Sign.{Beginning, is_leaf, is_static, is_quote, is_exit, is_new, is_yield, encloses, lists, prefixes, begins_nothing, beginning, is_ampersand, is_colon}
+use Rattle.php_grammar.specs.expression.Role.{Beginning, at_leaf, at_static, at_template, at_exit, at_new, at_yield, at_enclosed, at_listed, at_prefix, at_nothing, beginning, is_ampersand, is_colon}
 use Rattle.php_grammar.specs.expression.Machine.{Nothing, Form, State, expects, started, advance}
 use Rattle.php_grammar.specs.Run.{either, if_some, ReadingOf, or_halted}
 use Rattle.php_ast.specs.statement.Tree.{Statement, expression, jump, returning, breaking, continuing, Statements, no_statement, and_statement}
 use Rattle.php_ast.specs.statement.Spelling.{spell_statement}
-use Rattle.php_grammar.specs.statement.Sign.{StatementBeginning, at_expression, statement_beginning, Behind, by_else, by_while, by_other, behind, behind_keyword, body_strength, ending, no_ending, is_semicolon}
+use Rattle.php_grammar.specs.statement.Role.{StatementBeginning, at_expression, statement_beginning, Behind, by_else, by_while, by_other, behind, behind_keyword, body_strength, ending, no_ending, is_semicolon}
 use Rattle.php_grammar.specs.statement.Forms.{while_loop, for_loop, foreach_loop, StatementList, of_block, of_if, of_elseif, of_else, of_loop, of_case, of_try, of_catch, of_finally, list_open, Around, as_line, StatementState, due_statement, done, in_expression, due_in_list}
 use Rattle.php_grammar.specs.statement.Machine.{begun, begin, list_end, list_step, released_bodies, reached_step}
 use Rattle.php_grammar.specs.statement.Reading.{StatementReading, halt_statement, read_statement_from}
@@ -36,21 +36,21 @@ or_some (Some m) f a b h = refl
 -- ---- expressions
 
 pub started_goes : (x : Beginning) → begins_some x ≡ true → IsSome (started x [])
-started_goes (is_leaf l) h = tt
-started_goes is_static h = tt
-started_goes is_quote h = tt
-started_goes is_exit h = tt
-started_goes is_new h = tt
-started_goes is_yield h = tt
-started_goes (encloses parentheses) h = tt
-started_goes (encloses emptiness) h = tt
-started_goes (encloses exiting) h = tt
-started_goes (lists (array form.Brackets)) h = tt
-started_goes (lists (array form.Array)) h = tt
-started_goes (lists (array form.List)) h = tt
-started_goes (lists isset) h = tt
-started_goes (prefixes op) h = tt
-started_goes begins_nothing h = cc
+started_goes (at_leaf l) h = tt
+started_goes at_static h = tt
+started_goes at_template h = tt
+started_goes at_exit h = tt
+started_goes at_new h = tt
+started_goes at_yield h = tt
+started_goes (at_enclosed parentheses) h = tt
+started_goes (at_enclosed emptiness) h = tt
+started_goes (at_enclosed exiting) h = tt
+started_goes (at_listed (array form.Brackets)) h = tt
+started_goes (at_listed (array form.Array)) h = tt
+started_goes (at_listed (array form.List)) h = tt
+started_goes (at_listed is_set) h = tt
+started_goes (at_prefix op) h = tt
+started_goes at_nothing h = cc
 
 -- an expression that begins with its first symbol is one that was due before it
 pub entered_on : {M A : Type 0} (t : Symbol) (on : State → M) (other : Option M) (f : M → ReadingOf A) (a b : ReadingOf A) → begins_some (beginning t) ≡ true
@@ -267,7 +267,7 @@ static_fits (enclosed spot exiting e) w = tt
 static_fits (listed spot (array form.Brackets) items) w = tt
 static_fits (listed spot (array form.Array) items) w = tt
 static_fits (listed spot (array form.List) items) w = tt
-static_fits (listed spot isset items) w = tt
+static_fits (listed spot is_set items) w = tt
 static_fits (static_member spot member) w = refl
 static_fits (append e) w = static_fits e _
 static_fits (index e key) w = static_fits e _
@@ -275,10 +275,10 @@ static_fits (selected e arrow member) w = static_fits e _
 static_fits (computed e key) w = static_fits e _
 static_fits (call f items) w = static_fits f _
 static_fits (prefix spot op e) w = prefix_fits op _
-static_fits (counted e count) w = static_fits e _
+static_fits (count e way) w = static_fits e _
 static_fits (binary op l r) w = static_fits l _
-static_fits (instance l r) w = static_fits l _
-static_fits (static_instance l spot) w = static_fits l _
+static_fits (instance_of l r) w = static_fits l _
+static_fits (instance_of_static l spot) w = static_fits l _
 static_fits (choice c a b) w = static_fits c _
 static_fits (short_choice c b) w = static_fits c _
 static_fits (assign how l r) w = static_fits l _

@@ -10,7 +10,7 @@ use Rattle.php_ast.specs.expression.Tree.{Items, none, and, skip, plain, referen
 use Rattle.php_ast.specs.expression.Spelling.{spell, spell_items}
 use Rattle.php_ast.specs.expression.Nesting.{nests, nests_items, comma_nests}
 use Rattle.php_ast.specs.expression.Proper.{Proper, AreValues, AreProperItems}
-use Rattle.php_grammar.specs.expression.Sign.{beginning}
+use Rattle.php_grammar.specs.expression.Role.{beginning}
 use Rattle.php_grammar.specs.expression.Machine.{Nothing, Form, State, expects, pick, advance}
 use Rattle.php_grammar.specs.expression.Laws.{EndsBefore}
 use Rattle.php_grammar.specs.Run.{either, if_some}
@@ -19,9 +19,9 @@ use Rattle.php_ast.specs.statement.Tree.{Sequence, empty, then_also, Name, Varia
 use Rattle.php_ast.specs.statement.Spelling.{separated, commas, spell_name, spell_dollar, spell_value, spell_variable, spell_constant, spell_target, spell_key}
 use Rattle.php_ast.specs.statement.Nesting.{separated_nests, separator_nests, name_nests, value_nests, variable_nests, constant_nests, target_nests, key_nests}
 use Rattle.php_ast.specs.statement.Proper.{Each, IfAny, AreSome, AreAny, IsProperTarget, IsProperKey}
-use Rattle.php_grammar.specs.statement.Sign.{StatementBeginning, at_block, at_expression, statement_beginning, Behind, by_else, by_while, by_other, by_catch, by_finally, behind, body_strength, ends_outside, ending}
+use Rattle.php_grammar.specs.statement.Role.{StatementBeginning, at_block, at_expression, statement_beginning, Behind, by_else, by_while, by_other, by_catch, by_finally, behind, body_strength, ends_outside, ending}
 use Rattle.php_grammar.specs.statement.Forms.{StatementList, of_block, of_if, of_loop, list_open, if_open, loop_open, OpenStatement, Around, Loop, foreach_loop, Values, ExpressionPlace, as_line, as_value, as_static, as_constant, as_jump, as_first, as_second, of_globals, of_statics, of_constants, of_classes, StatementState, due_statement, done, in_expression, due_value, due_name, past_name, past_static_word, past_jump, past_if, past_loop, past_as, past_key, past_block, completed_statement}
-use Rattle.php_grammar.specs.statement.Machine.{body_level, released_bodies, reached_step, expected, entered, listing, begun, begin, list_end, list_step, values_step, filled, target, past_statement, advance_statement}
+use Rattle.php_grammar.specs.statement.Machine.{least_strength, released_bodies, reached_step, expected, entered, listing, begun, begin, list_end, list_step, values_step, filled, target, past_statement, advance_statement}
 use Rattle.php_grammar.specs.expression.Machine.{past_static, past_static_colons}
 use Rattle.php_grammar.specs.statement.Depth.{is_body, deepened_statement, statement_depth, begun_depth, begin_depth, list_depth, form_depth, kept_bodies, depth_past, block_depth, values_depth, place_depth, statement_depth_at}
 use Rattle.php_grammar.specs.statement.Laws.{is_catching, head_behind}
@@ -172,17 +172,17 @@ end_traced list (and_statement ss a) o t w n h =
 
 -- ---- the end of a body
 
-body_traced : (f : OpenStatement) (a : Statement Nothing) (o : Around) (w : List Symbol) → nat_lt (body_strength (head_behind w)) (body_level f) ≡ true
+body_traced : (f : OpenStatement) (a : Statement Nothing) (o : Around) (w : List Symbol) → nat_lt (body_strength (head_behind w)) (least_strength f) ≡ true
     → trace (done a (f ∷ o)) w ≡ trace (done (completed_statement f a) o) w
 body_traced f a o [] h = refl
 body_traced f a o (t ∷ w) h =
     ap (λ b. taken (reached_step (pick b (released_bodies (body_strength (behind t)) o (completed_statement f a)) (record { tree = a; around = f ∷ o })) t (behind t))
     (form_depth (pick b (kept_bodies (body_strength (behind t)) o) (f ∷ o)) t) (λ n. trace n w)) h
 
-pub last_traced : (f : OpenStatement) (a : Statement Nothing) (o : Around) (w : List Symbol) → body_level f ≡ 2 → trace (done a (f ∷ o)) w ≡ trace (done (completed_statement f a) o) w
+pub last_traced : (f : OpenStatement) (a : Statement Nothing) (o : Around) (w : List Symbol) → least_strength f ≡ 2 → trace (done a (f ∷ o)) w ≡ trace (done (completed_statement f a) o) w
 last_traced f a o w h = body_traced f a o w (ap (nat_lt (body_strength (head_behind w))) h ∙ strength_small (head_behind w))
 
-pub ended_traced : (f : OpenStatement) (a : Statement Nothing) (o : Around) (w : List Symbol) → body_level f ≡ 1 → body_strength (head_behind w) ≡ 0 → trace (done a (f ∷ o)) w ≡ trace (done (completed_statement f a) o) w
+pub ended_traced : (f : OpenStatement) (a : Statement Nothing) (o : Around) (w : List Symbol) → least_strength f ≡ 1 → body_strength (head_behind w) ≡ 0 → trace (done a (f ∷ o)) w ≡ trace (done (completed_statement f a) o) w
 ended_traced f a o w level h = body_traced f a o w (ap (nat_lt (body_strength (head_behind w))) level ∙ ap (λ n. nat_lt n 1) h)
 
 catches_depth : (x : Behind) (o : Around) (t : Symbol) → is_catching x ≡ false → block_depth x o t ≡ depth_past o t

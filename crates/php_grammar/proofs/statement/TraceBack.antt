@@ -16,7 +16,7 @@ use Rattle.php_ast.specs.statement.Tree.{Sequence, empty, then_also, Name, Jump,
 use Rattle.php_ast.specs.statement.Spelling.{commas, separated, spell_name, spell_dollar, spell_variable, spell_optional, spell_label, case_end_symbol, cases_opening, cases_closing, spell_statement, spell_statements, spell_elseifs, spell_elseif_lists, spell_body, spell_cases, spell_catches}
 use Rattle.php_ast.specs.statement.Nesting.{separator_nests, separated_nests, name_nests, variable_nests, constant_nests, key_nests, target_nests, head_nests, optional_nests, body_depth, cases_end_nests, nests_statement, nests_statements, nests_elseifs, nests_elseif_lists, nests_body, nests_cases, nests_catches}
 use Rattle.php_ast.specs.statement.Proper.{takes_else, last_takes, NoneTakes, NoListTakes, IfAny, AreAny, is_empty, IsProperLabel, IsProper, AreProper, AreProperParts, AreProperLists, IsProperBody, AreProperCases, AreProperCatches}
-use Rattle.php_grammar.specs.statement.Sign.{body_strength}
+use Rattle.php_grammar.specs.statement.Role.{body_strength}
 use Rattle.php_grammar.specs.statement.Forms.{list_open, Loop, while_loop, for_loop, foreach_loop, StatementList, of_block, of_if, of_elseif, of_else, of_loop, of_case, of_try, of_catch, of_finally, OpenStatement, if_open, elseif_open, else_open, loop_open, do_open, Around, Head, if_head, elseif_head, elseif_list_head, while_head, do_head, switch_head, of_echo, of_unset, of_starts, of_tests, of_steps, as_line, as_jump, as_thrown, as_test, as_walked, as_label, of_classes, due_statement, done, due_in_list, due_value, due_name, past_jump, past_loop, past_switch, due_case, past_default, past_block, looped}
 use Rattle.php_grammar.specs.statement.Machine.{expected, labelled, before_semicolon, tested}
 use Rattle.php_grammar.specs.statement.Reading.{loop_word}

@@ -4,15 +4,15 @@ use Rattle.std.specs.Prelude.{Bool, true, false, Option, Some, None, List, [], �
 use Rattle.php_token.specs.declared.kind.Punct.TheVariants as mark
 use Rattle.php_ast.specs.Symbol.{Symbol, punct}
 use Rattle.php_ast.specs.expression.Tree as tree
-use Rattle.php_grammar.specs.expression.Sign.{is_ampersand, is_left_brace, word_of}
+use Rattle.php_grammar.specs.expression.Role.{is_ampersand, is_left_brace, word_of}
 use Rattle.php_grammar.specs.expression.Machine.{Nothing, pick}
 use Rattle.php_grammar.specs.Run.{either, if_some, ReadingOf, reading, if_whole, inside}
 use Rattle.php_ast.specs.statement.Tree.{Name, Statements, no_statement, and_statement}
 use Rattle.php_ast.specs.declaration.Tree.{Signature}
-use Rattle.php_grammar.specs.statement.Sign.{is_semicolon, is_right_brace, name_text}
+use Rattle.php_grammar.specs.statement.Role.{is_semicolon, is_right_brace, name_text}
 use Rattle.php_grammar.specs.statement.Forms.{StatementState, due_statement}
 use Rattle.php_grammar.specs.statement.Machine.{advance_statement, named_here}
-use Rattle.php_grammar.specs.statement.Reading.{halt_statement, whole_statement, braces, any_name, end_sign}
+use Rattle.php_grammar.specs.statement.Reading.{halt_statement, whole_statement, braces, any_name, end_symbol}
 use Rattle.php_grammar.specs.declaration.SignatureMachine.{SignatureState, due_signature, advance_signature, halt_signature, whole_signature, any_word}
 
 -- how a function is named, and whether `;` may stand in place of its block
@@ -89,7 +89,7 @@ least_body true = None
 least_body false = Some no_statement
 
 abbrev pub least_body_rest : Bool → List Symbol
-least_body_rest true = end_sign ∷ []
+least_body_rest true = end_symbol ∷ []
 least_body_rest false = braces []
 
 abbrev pub behind_name : {N : Type 0} → FunctionForm N → Bool → N → ReadingOf (Signature Nothing) → List Symbol → ReadingOf (Routine N)

@@ -3,7 +3,7 @@ use Rattle.std.specs.Prelude.{◌≡◌, ℕ, ◌+◌, length, false, Option, So
 use Rattle.php_token.specs.Token.{Token}
 use Rattle.php_ast.specs.Symbol.{Symbol, symbol}
 use Rattle.php_ast.specs.expression.View.{Note}
-use Rattle.php_grammar.specs.expression.Sign.{is_colon}
+use Rattle.php_grammar.specs.expression.Role.{is_colon}
 use Rattle.php_grammar.specs.expression.Machine.{Nothing}
 use Rattle.php_ast.specs.declaration.Tree.{Type_of, Signature, Member, Script}
 use Rattle.php_ast.specs.declaration.Spelling.{spell_signature, spell_member, spell_script}

@@ -10,44 +10,44 @@ use Rattle.php_ast.specs.declared.declaration.Visibility.TheVariants as visibili
 use Rattle.php_ast.specs.Symbol as symbol
 use Rattle.php_ast.specs.Symbol.{Symbol, keyword, punct}
 use Rattle.php_ast.specs.expression.Tree as tree
-use Rattle.php_grammar.specs.expression.Sign.{comma, semicolon, is_left_brace, word_of}
+use Rattle.php_grammar.specs.expression.Role.{comma, semicolon, is_left_brace, word_of}
 use Rattle.php_grammar.specs.expression.Machine.{Nothing, Form, State, expects, any, any_symbol, pick}
 use Rattle.php_grammar.specs.Run.{either, if_some, ReadingOf, reading, if_whole, inside, run_of, through_expression, around_expression}
 use Rattle.php_ast.specs.statement.Tree.{Sequence, empty, then_also, Name, Variable}
 use Rattle.php_ast.specs.declaration.Tree.{Modifier, ClassConstant, Rule, renames, prefers, Member, uses, uses_by, class_constants, method, properties}
-use Rattle.php_grammar.specs.statement.Sign.{Ending, closer, ending, is_assign, is_semicolon, is_right_brace, name_text}
+use Rattle.php_grammar.specs.statement.Role.{Ending, closer, ending, is_assign, is_semicolon, is_right_brace, name_text}
 use Rattle.php_grammar.specs.statement.Machine.{named_here}
-use Rattle.php_grammar.specs.statement.Reading.{any_name, end_sign}
+use Rattle.php_grammar.specs.statement.Reading.{any_name, end_symbol}
 use Rattle.php_grammar.specs.declaration.SignatureMachine.{any_word}
 use Rattle.php_grammar.specs.declaration.FunctionMachine.{method_form, Routine, FunctionState, past_function, advance_function, halt_function}
 
 -- ---- the roles of a symbol among members
 
-pub data MemberSign : Type 0 where
-  modifier_sign : ModifierWord → MemberSign
-  function_sign : MemberSign
-  const_sign : MemberSign
-  use_sign : MemberSign
-  variable_sign : List ℕ → MemberSign
-  other_sign : MemberSign
+pub data MemberRole : Type 0 where
+  at_modifier : ModifierWord → MemberRole
+  at_function : MemberRole
+  at_class_constants : MemberRole
+  at_use : MemberRole
+  at_variable : List ℕ → MemberRole
+  at_other : MemberRole
 
-abbrev pub member_keyword : Keyword → MemberSign
-member_keyword word.Public = modifier_sign modifier.Public
-member_keyword word.Protected = modifier_sign modifier.Protected
-member_keyword word.Private = modifier_sign modifier.Private
-member_keyword word.Static = modifier_sign modifier.Static
-member_keyword word.Abstract = modifier_sign modifier.Abstract
-member_keyword word.Final = modifier_sign modifier.Final
-member_keyword word.Var = modifier_sign modifier.Var
-member_keyword word.Function = function_sign
-member_keyword word.Const = const_sign
-member_keyword word.Use = use_sign
-member_keyword _ = other_sign
+abbrev pub member_keyword : Keyword → MemberRole
+member_keyword word.Public = at_modifier modifier.Public
+member_keyword word.Protected = at_modifier modifier.Protected
+member_keyword word.Private = at_modifier modifier.Private
+member_keyword word.Static = at_modifier modifier.Static
+member_keyword word.Abstract = at_modifier modifier.Abstract
+member_keyword word.Final = at_modifier modifier.Final
+member_keyword word.Var = at_modifier modifier.Var
+member_keyword word.Function = at_function
+member_keyword word.Const = at_class_constants
+member_keyword word.Use = at_use
+member_keyword _ = at_other
 
-abbrev pub member_sign : Symbol → MemberSign
-member_sign (symbol.variable text) = variable_sign text
-member_sign (keyword k) = member_keyword k
-member_sign _ = other_sign
+abbrev pub member_role : Symbol → MemberRole
+member_role (symbol.variable text) = at_variable text
+member_role (keyword k) = member_keyword k
+member_role _ = at_other
 
 abbrev pub visibility_of_keyword : Keyword → Option Visibility
 visibility_of_keyword word.Public = Some visibility.Public
@@ -60,18 +60,18 @@ visibility_of (keyword k) = visibility_of_keyword k
 visibility_of _ = None
 
 -- the word that says what a rule does
-pub data RuleSign : Type 0 where
-  as_sign : RuleSign
-  instead_sign : RuleSign
+pub data RuleRole : Type 0 where
+  by_as : RuleRole
+  by_instead_of : RuleRole
   -- `::`
-  colons_sign : RuleSign
-  no_rule_sign : RuleSign
+  by_colons : RuleRole
+  by_no_rule : RuleRole
 
-abbrev pub rule_sign : Symbol → RuleSign
-rule_sign (keyword word.As) = as_sign
-rule_sign (keyword word.InsteadOf) = instead_sign
-rule_sign (punct mark.DoubleColon) = colons_sign
-rule_sign _ = no_rule_sign
+abbrev pub rule_role : Symbol → RuleRole
+rule_role (keyword word.As) = by_as
+rule_role (keyword word.InsteadOf) = by_instead_of
+rule_role (punct mark.DoubleColon) = by_colons
+rule_role _ = by_no_rule
 
 -- ---- states
 
@@ -130,12 +130,12 @@ abbrev pub with_rule : Rules → Rule Nothing → Rules
 with_rule r rule = record { traits = r.traits; rules = then_also r.rules rule }
 
 -- A `use` has no modifier, and a property has one at least.
-abbrev pub first_step : Modifiers → MemberSign → Option MemberState
-first_step modifiers (modifier_sign w) = Some (past_modifiers (with_modifier modifiers w))
-first_step modifiers function_sign = Some (in_method modifiers past_function)
-first_step modifiers const_sign = Some (due_constant modifiers empty)
-first_step empty use_sign = Some (due_trait of_use empty)
-first_step (then_also modifiers m) (variable_sign text) = Some (past_property (then_also modifiers m) empty (named_here text))
+abbrev pub first_step : Modifiers → MemberRole → Option MemberState
+first_step modifiers (at_modifier w) = Some (past_modifiers (with_modifier modifiers w))
+first_step modifiers at_function = Some (in_method modifiers past_function)
+first_step modifiers at_class_constants = Some (due_constant modifiers empty)
+first_step empty at_use = Some (due_trait of_use empty)
+first_step (then_also modifiers m) (at_variable text) = Some (past_property (then_also modifiers m) empty (named_here text))
 first_step modifiers _ = None
 
 abbrev pub name_here : Symbol → (Name Nothing → MemberState) → Option MemberState
@@ -168,8 +168,8 @@ with_constant items w e = then_also items (record { name = w; value = e })
 abbrev pub with_property : Sequence (Variable Nothing) → Name Nothing → Option Form → Sequence (Variable Nothing)
 with_property items n e = then_also items (record { name = n; value = e })
 
-abbrev pub due_property_step : Modifiers → Sequence (Variable Nothing) → MemberSign → Option MemberState
-due_property_step modifiers items (variable_sign text) = Some (past_property modifiers items (named_here text))
+abbrev pub due_property_step : Modifiers → Sequence (Variable Nothing) → MemberRole → Option MemberState
+due_property_step modifiers items (at_variable text) = Some (past_property modifiers items (named_here text))
 due_property_step modifiers items _ = None
 
 abbrev pub method_of : Modifiers → Routine Word → Member Nothing
@@ -183,14 +183,14 @@ method_of modifiers f = method (record {
 })
 
 -- Behind the first word of a rule. A name may be that of a class, in front of `::`.
-abbrev pub first_word_step : Rules → Word → RuleSign → Option MemberState
-first_word_step r w as_sign = Some (past_as r None w)
-first_word_step r (tree.named note text) colons_sign = Some (past_colons r (named_here text))
+abbrev pub first_word_step : Rules → Word → RuleRole → Option MemberState
+first_word_step r w by_as = Some (past_as r None w)
+first_word_step r (tree.named note text) by_colons = Some (past_colons r (named_here text))
 first_word_step r w _ = None
 
-abbrev pub second_word_step : Rules → Name Nothing → Word → RuleSign → Option MemberState
-second_word_step r origin w as_sign = Some (past_as r (Some origin) w)
-second_word_step r origin w instead_sign = Some (due_trait (of_instead r origin w) empty)
+abbrev pub second_word_step : Rules → Name Nothing → Word → RuleRole → Option MemberState
+second_word_step r origin w by_as = Some (past_as r (Some origin) w)
+second_word_step r origin w by_instead_of = Some (due_trait (of_instead r origin w) empty)
 second_word_step r origin w _ = None
 
 abbrev pub rule_end : Rules → Rule Nothing → Symbol → Option MemberState
@@ -207,14 +207,14 @@ visibility_step r origin w seen t =
     either (word_here t (λ alias. due_rule_end r (renames tt origin w (Some seen) (Some alias)))) (rule_end r (renames tt origin w (Some seen) None) t)
 
 abbrev pub advance_member : MemberState → Symbol → Option MemberState
-advance_member (past_modifiers modifiers) t = first_step modifiers (member_sign t)
+advance_member (past_modifiers modifiers) t = first_step modifiers (member_role t)
 advance_member (due_trait list names) t = name_here t (λ n. past_trait list (then_also names n))
 advance_member (past_trait list names) t = listed_step list names t (ending t)
 advance_member (due_constant modifiers items) t = word_here t (past_constant modifiers items)
 advance_member (past_constant modifiers items w) t = pick (is_assign t) (Some (in_constant modifiers items w (expects []))) None
 advance_member (in_constant modifiers items w m) t =
     through_expression m t (λ n. in_constant modifiers items w n) (λ e. constant_end modifiers (with_constant items w e) (ending t))
-advance_member (due_property modifiers items) t = due_property_step modifiers items (member_sign t)
+advance_member (due_property modifiers items) t = due_property_step modifiers items (member_role t)
 advance_member (past_property modifiers items n) t =
     pick (is_assign t) (Some (in_property modifiers items n (expects []))) (property_end modifiers (with_property items n None) (ending t))
 advance_member (in_property modifiers items n m) t =
@@ -222,9 +222,9 @@ advance_member (in_property modifiers items n m) t =
 advance_member (in_method modifiers m) t = if_some (advance_function method_form m t) (λ n. Some (in_method modifiers n))
 advance_member (due_rule r) t =
     pick (is_right_brace t) (Some (past_member (uses_by tt r.traits r.rules))) (word_here t (past_first_word r))
-advance_member (past_first_word r w) t = first_word_step r w (rule_sign t)
+advance_member (past_first_word r w) t = first_word_step r w (rule_role t)
 advance_member (past_colons r origin) t = word_here t (past_second_word r origin)
-advance_member (past_second_word r origin w) t = second_word_step r origin w (rule_sign t)
+advance_member (past_second_word r origin w) t = second_word_step r origin w (rule_role t)
 advance_member (past_as r origin w) t = as_step r origin w t
 advance_member (past_visibility r origin w seen) t = visibility_step r origin w seen t
 advance_member (due_rule_end r rule) t = rule_end r rule t
@@ -240,37 +240,37 @@ least_properties modifiers items n = properties modifiers (with_property items n
 
 -- The shortest member is a `use` of one trait, and behind modifiers one property.
 abbrev pub first_rest : Modifiers → List Symbol → ReadingOf (Member Nothing)
-first_rest empty w = reading (uses tt (then_also empty any_name)) (keyword word.Use ∷ any_word ∷ end_sign ∷ []) w
-first_rest (then_also modifiers m) w = reading (least_properties (then_also modifiers m) empty any_name) (any_symbol ∷ end_sign ∷ []) w
+first_rest empty w = reading (uses tt (then_also empty any_name)) (keyword word.Use ∷ any_word ∷ end_symbol ∷ []) w
+first_rest (then_also modifiers m) w = reading (least_properties (then_also modifiers m) empty any_name) (any_symbol ∷ end_symbol ∷ []) w
 
 abbrev pub names_member : NamesIn → Names → Member Nothing
 names_member of_use names = uses tt names
 names_member (of_instead r origin w) names = uses_by tt r.traits (then_also r.rules (prefers tt origin w names))
 
 abbrev pub names_rest : NamesIn → List Symbol
-names_rest of_use = end_sign ∷ []
-names_rest (of_instead r origin w) = end_sign ∷ punct mark.RightBrace ∷ []
+names_rest of_use = end_symbol ∷ []
+names_rest (of_instead r origin w) = end_symbol ∷ punct mark.RightBrace ∷ []
 
 abbrev pub ruled : Rules → Rule Nothing → List Symbol → List Symbol → ReadingOf (Member Nothing)
 ruled r rule missing w = reading (uses_by tt r.traits (then_also r.rules rule)) missing w
 
 abbrev pub rule_rest : List Symbol
-rule_rest = end_sign ∷ punct mark.RightBrace ∷ []
+rule_rest = end_symbol ∷ punct mark.RightBrace ∷ []
 
 abbrev pub halt_member : MemberState → List Symbol → ReadingOf (Member Nothing)
 halt_member (past_modifiers modifiers) w = first_rest modifiers w
 halt_member (due_trait list names) w = reading (names_member list (then_also names any_name)) (any_word ∷ names_rest list) w
 halt_member (past_trait list names) w = reading (names_member list names) (names_rest list) w
 halt_member (due_constant modifiers items) w =
-    reading (class_constants modifiers (with_constant items any_class_word any)) (any_word ∷ punct mark.Assign ∷ any_symbol ∷ end_sign ∷ []) w
+    reading (class_constants modifiers (with_constant items any_class_word any)) (any_word ∷ punct mark.Assign ∷ any_symbol ∷ end_symbol ∷ []) w
 halt_member (past_constant modifiers items n) w =
-    reading (class_constants modifiers (with_constant items n any)) (punct mark.Assign ∷ any_symbol ∷ end_sign ∷ []) w
+    reading (class_constants modifiers (with_constant items n any)) (punct mark.Assign ∷ any_symbol ∷ end_symbol ∷ []) w
 halt_member (in_constant modifiers items n m) w =
-    around_expression (λ e. class_constants modifiers (with_constant items n e)) m (end_sign ∷ []) w
-halt_member (due_property modifiers items) w = reading (least_properties modifiers items any_name) (any_symbol ∷ end_sign ∷ []) w
-halt_member (past_property modifiers items n) w = reading (least_properties modifiers items n) (end_sign ∷ []) w
+    around_expression (λ e. class_constants modifiers (with_constant items n e)) m (end_symbol ∷ []) w
+halt_member (due_property modifiers items) w = reading (least_properties modifiers items any_name) (any_symbol ∷ end_symbol ∷ []) w
+halt_member (past_property modifiers items n) w = reading (least_properties modifiers items n) (end_symbol ∷ []) w
 halt_member (in_property modifiers items n m) w =
-    around_expression (λ e. properties modifiers (with_property items n (Some e))) m (end_sign ∷ []) w
+    around_expression (λ e. properties modifiers (with_property items n (Some e))) m (end_symbol ∷ []) w
 halt_member (in_method modifiers m) w = inside (method_of modifiers) (halt_function method_form m w) [] w
 halt_member (due_rule r) w = reading (uses_by tt r.traits r.rules) (punct mark.RightBrace ∷ []) w
 halt_member (past_first_word r n) w = ruled r (renames tt None n None None) (keyword word.As ∷ rule_rest) w

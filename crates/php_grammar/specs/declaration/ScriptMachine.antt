@@ -10,7 +10,7 @@ use Rattle.php_grammar.specs.expression.Machine.{Nothing, pick}
 use Rattle.php_grammar.specs.Run.{either, if_some, ReadingOf, reading, inside, run_of}
 use Rattle.php_ast.specs.statement.Tree.{Sequence, empty, then_also, Name, Statements, no_statement}
 use Rattle.php_ast.specs.declaration.Tree.{ClassWord, Member, Item, of_statement, of_function, of_class, of_interface, of_trait, Script}
-use Rattle.php_grammar.specs.statement.Sign.{is_right_brace, name_text}
+use Rattle.php_grammar.specs.statement.Role.{is_right_brace, name_text}
 use Rattle.php_grammar.specs.statement.Forms.{StatementState, due_statement}
 use Rattle.php_grammar.specs.statement.Machine.{advance_statement, named_here}
 use Rattle.php_grammar.specs.statement.Reading.{halt_statement, whole_statement, any_name, braces}
@@ -20,42 +20,42 @@ use Rattle.php_grammar.specs.declaration.MemberMachine.{MemberState, past_modifi
 
 -- ---- the roles of a symbol at the outermost level
 
-pub data ItemSign : Type 0 where
-  function_sign : ItemSign
-  class_sign : ItemSign
-  word_sign : ClassModifier → ItemSign
-  interface_sign : ItemSign
-  trait_sign : ItemSign
+pub data ItemRole : Type 0 where
+  at_function : ItemRole
+  at_class : ItemRole
+  at_class_word : ClassModifier → ItemRole
+  at_interface : ItemRole
+  at_trait : ItemRole
   -- anything else, which begins a statement or nothing
-  statement_sign : ItemSign
+  at_statement : ItemRole
 
-abbrev pub item_keyword : Keyword → ItemSign
-item_keyword word.Function = function_sign
-item_keyword word.Class = class_sign
-item_keyword word.Abstract = word_sign class_word.Abstract
-item_keyword word.Final = word_sign class_word.Final
-item_keyword word.Interface = interface_sign
-item_keyword word.Trait = trait_sign
-item_keyword _ = statement_sign
+abbrev pub item_keyword : Keyword → ItemRole
+item_keyword word.Function = at_function
+item_keyword word.Class = at_class
+item_keyword word.Abstract = at_class_word class_word.Abstract
+item_keyword word.Final = at_class_word class_word.Final
+item_keyword word.Interface = at_interface
+item_keyword word.Trait = at_trait
+item_keyword _ = at_statement
 
-abbrev pub item_sign : Symbol → ItemSign
-item_sign (keyword k) = item_keyword k
-item_sign _ = statement_sign
+abbrev pub item_role : Symbol → ItemRole
+item_role (keyword k) = item_keyword k
+item_role _ = at_statement
 
 -- behind the name of a class or an interface
-pub data HeadingSign : Type 0 where
-  extends_sign : HeadingSign
-  implements_sign : HeadingSign
-  comma_sign : HeadingSign
-  brace_sign : HeadingSign
-  no_heading_sign : HeadingSign
+pub data HeadingRole : Type 0 where
+  by_extends : HeadingRole
+  by_implements : HeadingRole
+  by_comma : HeadingRole
+  by_members : HeadingRole
+  by_no_heading : HeadingRole
 
-abbrev pub heading_sign : Symbol → HeadingSign
-heading_sign (keyword word.Extends) = extends_sign
-heading_sign (keyword word.Implements) = implements_sign
-heading_sign (punct mark.Comma) = comma_sign
-heading_sign (punct mark.LeftBrace) = brace_sign
-heading_sign _ = no_heading_sign
+abbrev pub heading_role : Symbol → HeadingRole
+heading_role (keyword word.Extends) = by_extends
+heading_role (keyword word.Implements) = by_implements
+heading_role (punct mark.Comma) = by_comma
+heading_role (punct mark.LeftBrace) = by_members
+heading_role _ = by_no_heading
 
 -- ---- states
 
@@ -127,20 +127,20 @@ with_word words w = then_also words (record { note = tt; word = w })
 abbrev pub statement_step : Items → StatementState → Symbol → Option ScriptState
 statement_step items m t = if_some (advance_statement m t) (λ n. Some (in_statement items n))
 
-abbrev pub item_begun : Items → ItemSign → Symbol → Option ScriptState
-item_begun items function_sign t = Some (in_function items past_function)
-item_begun items class_sign t = Some (due_heading_name items (class_kind empty))
-item_begun items (word_sign w) t = Some (past_class_words items (with_word empty w))
-item_begun items interface_sign t = Some (due_heading_name items interface_kind)
-item_begun items trait_sign t = Some (due_heading_name items trait_kind)
-item_begun items statement_sign t = statement_step items (due_statement []) t
+abbrev pub item_begun : Items → ItemRole → Symbol → Option ScriptState
+item_begun items at_function t = Some (in_function items past_function)
+item_begun items at_class t = Some (due_heading_name items (class_kind empty))
+item_begun items (at_class_word w) t = Some (past_class_words items (with_word empty w))
+item_begun items at_interface t = Some (due_heading_name items interface_kind)
+item_begun items at_trait t = Some (due_heading_name items trait_kind)
+item_begun items at_statement t = statement_step items (due_statement []) t
 
 abbrev pub item_step : Items → Symbol → Option ScriptState
-item_step items t = item_begun items (item_sign t) t
+item_step items t = item_begun items (item_role t) t
 
-abbrev pub class_word_step : Items → ClassWords → ItemSign → Option ScriptState
-class_word_step items words (word_sign w) = Some (past_class_words items (with_word words w))
-class_word_step items words class_sign = Some (due_heading_name items (class_kind words))
+abbrev pub class_word_step : Items → ClassWords → ItemRole → Option ScriptState
+class_word_step items words (at_class_word w) = Some (past_class_words items (with_word words w))
+class_word_step items words at_class = Some (due_heading_name items (class_kind words))
 class_word_step items words _ = None
 
 abbrev pub begun_heading : Kind → Name Nothing → Heading
@@ -154,14 +154,14 @@ with_interface (interface_heading n parents) other = interface_heading n (then_a
 with_interface (trait_heading n) other = trait_heading n
 
 -- `extends` stands before `implements`, and a comma between two names.
-abbrev pub heading_step : Items → Heading → HeadingSign → Option ScriptState
-heading_step items heading brace_sign = Some (due_member items heading empty)
-heading_step items (class_heading words n None empty) extends_sign = Some (due_parent items words n)
-heading_step items (class_heading words n parent empty) implements_sign = Some (due_interface items (class_heading words n parent empty))
-heading_step items (class_heading words n parent (then_also xs x)) comma_sign =
+abbrev pub heading_step : Items → Heading → HeadingRole → Option ScriptState
+heading_step items heading by_members = Some (due_member items heading empty)
+heading_step items (class_heading words n None empty) by_extends = Some (due_parent items words n)
+heading_step items (class_heading words n parent empty) by_implements = Some (due_interface items (class_heading words n parent empty))
+heading_step items (class_heading words n parent (then_also xs x)) by_comma =
     Some (due_interface items (class_heading words n parent (then_also xs x)))
-heading_step items (interface_heading n empty) extends_sign = Some (due_interface items (interface_heading n empty))
-heading_step items (interface_heading n (then_also xs x)) comma_sign = Some (due_interface items (interface_heading n (then_also xs x)))
+heading_step items (interface_heading n empty) by_extends = Some (due_interface items (interface_heading n empty))
+heading_step items (interface_heading n (then_also xs x)) by_comma = Some (due_interface items (interface_heading n (then_also xs x)))
 heading_step items heading _ = None
 
 abbrev pub name_here : Symbol → (Name Nothing → ScriptState) → Option ScriptState
@@ -181,9 +181,9 @@ advance_script (in_statement items m) t =
 advance_script (in_function items m) t =
     either (if_some (advance_function function_form m t) (λ n. Some (in_function items n)))
     (if_some (whole_function function_form m) (λ f. item_step (then_also items (function_of f)) t))
-advance_script (past_class_words items words) t = class_word_step items words (item_sign t)
+advance_script (past_class_words items words) t = class_word_step items words (item_role t)
 advance_script (due_heading_name items kind) t = name_here t (λ n. past_heading items (begun_heading kind n))
-advance_script (past_heading items heading) t = heading_step items heading (heading_sign t)
+advance_script (past_heading items heading) t = heading_step items heading (heading_role t)
 advance_script (due_parent items words n) t = name_here t (λ parent. past_heading items (class_heading words n (Some parent) empty))
 advance_script (due_interface items heading) t = name_here t (λ n. past_heading items (with_interface heading n))
 advance_script (due_member items heading members) t = member_step items heading members t

@@ -6,44 +6,44 @@ use Rattle.php_token.specs.declared.kind.Punct.{Punct}
 use Rattle.php_token.specs.declared.kind.Punct.TheVariants as mark
 use Rattle.php_ast.specs.Symbol as symbol
 use Rattle.php_ast.specs.Symbol.{Symbol, keyword, punct}
-use Rattle.php_grammar.specs.expression.Sign.{paren, comma, is_paren, is_colon, is_right_paren}
+use Rattle.php_grammar.specs.expression.Role.{paren, comma, is_paren, is_colon, is_right_paren}
 use Rattle.php_grammar.specs.expression.Machine.{Nothing, Form, State, expects, any_symbol, pick}
 use Rattle.php_grammar.specs.Run.{ReadingOf, reading, if_whole, run_of, through_expression, around_expression}
 use Rattle.php_ast.specs.statement.Tree.{Sequence, empty, then_also, Name}
 use Rattle.php_ast.specs.statement.Proper.{is_empty}
 use Rattle.php_ast.specs.declaration.Tree.{Base, of_name, of_array, of_callable, Type_of, Param, Signature}
-use Rattle.php_grammar.specs.statement.Sign.{Ending, closer, ending, is_assign}
+use Rattle.php_grammar.specs.statement.Role.{Ending, closer, ending, is_assign}
 use Rattle.php_grammar.specs.statement.Machine.{named_here}
 use Rattle.php_grammar.specs.statement.Reading.{any_name}
 
 -- ---- the roles of a symbol in a signature
 
-pub data ParamSign : Type 0 where
+pub data ParamRole : Type 0 where
   -- a type without its `?`
-  base_sign : Base Nothing → ParamSign
-  variable_sign : List ℕ → ParamSign
-  question_sign : ParamSign
-  reference_sign : ParamSign
-  variadic_sign : ParamSign
-  other_sign : ParamSign
+  at_base : Base Nothing → ParamRole
+  at_variable : List ℕ → ParamRole
+  at_question : ParamRole
+  at_reference : ParamRole
+  at_variadic : ParamRole
+  at_other : ParamRole
 
-abbrev pub param_keyword : Keyword → ParamSign
-param_keyword word.Array = base_sign of_array
-param_keyword word.Callable = base_sign of_callable
-param_keyword _ = other_sign
+abbrev pub param_keyword : Keyword → ParamRole
+param_keyword word.Array = at_base of_array
+param_keyword word.Callable = at_base of_callable
+param_keyword _ = at_other
 
-abbrev pub param_punct : Punct → ParamSign
-param_punct mark.Question = question_sign
-param_punct mark.Ampersand = reference_sign
-param_punct mark.Ellipsis = variadic_sign
-param_punct _ = other_sign
+abbrev pub param_punct : Punct → ParamRole
+param_punct mark.Question = at_question
+param_punct mark.Ampersand = at_reference
+param_punct mark.Ellipsis = at_variadic
+param_punct _ = at_other
 
-abbrev pub param_sign : Symbol → ParamSign
-param_sign (symbol.name text) = base_sign (of_name (named_here text))
-param_sign (symbol.variable text) = variable_sign text
-param_sign (keyword k) = param_keyword k
-param_sign (punct p) = param_punct p
-param_sign _ = other_sign
+abbrev pub param_role : Symbol → ParamRole
+param_role (symbol.name text) = at_base (of_name (named_here text))
+param_role (symbol.variable text) = at_variable text
+param_role (keyword k) = param_keyword k
+param_role (punct p) = param_punct p
+param_role _ = at_other
 
 -- ---- states
 
@@ -93,34 +93,34 @@ signature_of params result = record { params = params; result = result }
 -- ---- steps
 
 -- behind the type of a parameter, or where it has none
-abbrev pub marked_step : Params → Declared → ParamSign → Option SignatureState
-marked_step params declared reference_sign = Some (past_reference params declared)
-marked_step params declared variadic_sign = Some (past_variadic params declared false)
-marked_step params declared (variable_sign text) = Some (past_param params (param_of declared false false (named_here text)))
+abbrev pub marked_step : Params → Declared → ParamRole → Option SignatureState
+marked_step params declared at_reference = Some (past_reference params declared)
+marked_step params declared at_variadic = Some (past_variadic params declared false)
+marked_step params declared (at_variable text) = Some (past_param params (param_of declared false false (named_here text)))
 marked_step params declared _ = None
 
-abbrev pub reference_step : Params → Declared → ParamSign → Option SignatureState
-reference_step params declared variadic_sign = Some (past_variadic params declared true)
-reference_step params declared (variable_sign text) = Some (past_param params (param_of declared true false (named_here text)))
+abbrev pub reference_step : Params → Declared → ParamRole → Option SignatureState
+reference_step params declared at_variadic = Some (past_variadic params declared true)
+reference_step params declared (at_variable text) = Some (past_param params (param_of declared true false (named_here text)))
 reference_step params declared _ = None
 
-abbrev pub variadic_step : Params → Declared → Bool → ParamSign → Option SignatureState
-variadic_step params declared is_reference (variable_sign text) =
+abbrev pub variadic_step : Params → Declared → Bool → ParamRole → Option SignatureState
+variadic_step params declared is_reference (at_variable text) =
     Some (past_param params (param_of declared is_reference true (named_here text)))
 variadic_step params declared is_reference _ = None
 
-abbrev pub param_step : Params → ParamSign → Option SignatureState
-param_step params question_sign = Some (past_question params)
-param_step params (base_sign base) = Some (past_type params (Some (type_of false base)))
+abbrev pub param_step : Params → ParamRole → Option SignatureState
+param_step params at_question = Some (past_question params)
+param_step params (at_base base) = Some (past_type params (Some (type_of false base)))
 param_step params x = marked_step params None x
 
-abbrev pub question_step : Params → ParamSign → Option SignatureState
-question_step params (base_sign base) = Some (past_type params (Some (type_of true base)))
+abbrev pub question_step : Params → ParamRole → Option SignatureState
+question_step params (at_base base) = Some (past_type params (Some (type_of true base)))
 question_step params _ = None
 
 -- A parameter is due behind a comma; behind the parenthesis there may be none.
 abbrev pub due_param_step : Params → Symbol → Option SignatureState
-due_param_step params t = pick (is_right_paren t) (pick (is_empty params) (Some (past_params params)) None) (param_step params (param_sign t))
+due_param_step params t = pick (is_right_paren t) (pick (is_empty params) (Some (past_params params)) None) (param_step params (param_role t))
 
 abbrev pub param_end : Params → Ending → Option SignatureState
 param_end params (closer comma) = Some (due_param params)
@@ -130,28 +130,28 @@ param_end params _ = None
 abbrev pub name_step : Params → Param Nothing → Symbol → Option SignatureState
 name_step params p t = pick (is_assign t) (Some (in_default params p (expects []))) (param_end (then_also params p) (ending t))
 
-abbrev pub result_step : Params → ParamSign → Option SignatureState
-result_step params question_sign = Some (past_result_question params)
-result_step params (base_sign base) = Some (past_signature (signature_of params (Some (type_of false base))))
+abbrev pub result_step : Params → ParamRole → Option SignatureState
+result_step params at_question = Some (past_result_question params)
+result_step params (at_base base) = Some (past_signature (signature_of params (Some (type_of false base))))
 result_step params _ = None
 
-abbrev pub nullable_result_step : Params → ParamSign → Option SignatureState
-nullable_result_step params (base_sign base) = Some (past_signature (signature_of params (Some (type_of true base))))
+abbrev pub nullable_result_step : Params → ParamRole → Option SignatureState
+nullable_result_step params (at_base base) = Some (past_signature (signature_of params (Some (type_of true base))))
 nullable_result_step params _ = None
 
 abbrev pub advance_signature : SignatureState → Symbol → Option SignatureState
 advance_signature due_signature t = pick (is_paren t) (Some (due_param empty)) None
 advance_signature (due_param params) t = due_param_step params t
-advance_signature (past_question params) t = question_step params (param_sign t)
-advance_signature (past_type params declared) t = marked_step params declared (param_sign t)
-advance_signature (past_reference params declared) t = reference_step params declared (param_sign t)
-advance_signature (past_variadic params declared is_reference) t = variadic_step params declared is_reference (param_sign t)
+advance_signature (past_question params) t = question_step params (param_role t)
+advance_signature (past_type params declared) t = marked_step params declared (param_role t)
+advance_signature (past_reference params declared) t = reference_step params declared (param_role t)
+advance_signature (past_variadic params declared is_reference) t = variadic_step params declared is_reference (param_role t)
 advance_signature (past_param params p) t = name_step params p t
 advance_signature (in_default params p m) t =
     through_expression m t (λ n. in_default params p n) (λ e. param_end (then_also params (with_default p e)) (ending t))
 advance_signature (past_params params) t = pick (is_colon t) (Some (due_result params)) None
-advance_signature (due_result params) t = result_step params (param_sign t)
-advance_signature (past_result_question params) t = nullable_result_step params (param_sign t)
+advance_signature (due_result params) t = result_step params (param_role t)
+advance_signature (past_result_question params) t = nullable_result_step params (param_role t)
 advance_signature (past_signature s) t = None
 
 -- ---- where it halts

@@ -3,14 +3,14 @@ use Rattle.std.specs.Prelude.{ℕ, ◌+◌, Bool, nat_lt, Option, Some, None, Li
 use Rattle.php_ast.specs.Symbol.{Symbol}
 use Rattle.php_ast.specs.Power.{binary_row}
 use Rattle.php_ast.specs.expression.Nesting.{right_depth}
-use Rattle.php_grammar.specs.expression.Sign.{Continuation, continuation, strength_of, is_arrow, ends_yield, is_ampersand, is_colon}
-use Rattle.php_grammar.specs.expression.Machine.{OpenForm, else_open, short_open, binary_open, instance_open, OpenForms, State, expects, holds, holds_call, due_enclosed, due_listed, past_items, past_value, past_exit, past_exit_paren, past_static, past_static_colons, past_template, past_index, past_arrow, past_new, past_class, past_step, past_question, past_assign, past_yield, ends_at, pick, advance}
+use Rattle.php_grammar.specs.expression.Role.{Continuation, continuation, strength_of, is_arrow, ends_yield, is_ampersand, is_colon}
+use Rattle.php_grammar.specs.expression.Machine.{OpenForm, else_open, short_open, binary_open, instance_of_open, OpenForms, State, expects, holds, holds_call, due_enclosed, due_listed, past_items, past_value, past_exit, past_exit_paren, past_static, past_static_colons, past_template, past_index, past_arrow, past_new, past_class, past_step, past_question, past_assign, past_yield, ends_at, pick, advance}
 
 -- what is in an open form is one deeper, but for the right sides of operators that don't group to the right
 abbrev pub deepened : OpenForm → ℕ → ℕ
 deepened (else_open c a) d = d
 deepened (short_open c) d = d
-deepened (instance_open l) d = d
+deepened (instance_of_open l) d = d
 deepened (binary_open op l) d = right_depth (binary_row op).grouping + d
 deepened _ d = 1 + d
 
@@ -28,7 +28,7 @@ abbrev pub depth_behind : OpenForms → Continuation → ℕ
 depth_behind s x = depth (kept (is_arrow x) (strength_of x) s)
 
 abbrev pub static_depth : OpenForms → Continuation → ℕ
-static_depth (instance_open l ∷ s) x = depth_behind s x
+static_depth (instance_of_open l ∷ s) x = depth_behind s x
 static_depth s x = depth s
 
 -- of a symbol that is read in a state

@@ -7,7 +7,7 @@ use Rattle.php_ast.specs.expression.Spelling.{spell}
 use Rattle.php_ast.specs.expression.Proper.{Proper, takes_arrow, ends_bare}
 use Rattle.php_ast.specs.expression.View.{Note}
 use Rattle.php_ast.specs.expression.Placed.{size, form_of, IsPlaced}
-use Rattle.php_grammar.specs.expression.Sign.{Continuation, neither, continuation, strength_of, is_arrow, ends_yield}
+use Rattle.php_grammar.specs.expression.Role.{Continuation, neither, continuation, strength_of, is_arrow, ends_yield}
 use Rattle.php_ast.specs.expression.Nesting.{nests}
 use Rattle.php_grammar.specs.expression.Machine.{Form, Reading, expects, read}
 use Rattle.php_grammar.specs.expression.Depth.{depths_read}

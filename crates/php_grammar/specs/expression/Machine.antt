@@ -11,14 +11,14 @@ use Rattle.php_ast.specs.declared.operator.Assign.TheVariants as setting
 use Rattle.php_ast.specs.declared.operator.ArrayForm.TheVariants as form
 use Rattle.php_ast.specs.Symbol as symbol
 use Rattle.php_ast.specs.Symbol.{Symbol, keyword, punct}
-use Rattle.php_ast.specs.expression.Tree.{variable, Enclosure, parentheses, exiting, Listing, array, isset, Arrow, thin, colons, Setting, by_value, by_reference, Member, named, held}
-use Rattle.php_ast.specs.expression.Tree.{Tree, leaf, template, enclosed, listed, exit, exit_empty, static_member, append, index, selected, computed, call, new, new_with, prefix, counted, binary, instance, static_instance, choice, short_choice, assign, yield_nothing, yield_value, yield_pair}
+use Rattle.php_ast.specs.expression.Tree.{variable, Enclosure, parentheses, exiting, Listing, array, is_set, Arrow, thin, colons, Setting, by_value, by_reference, Member, named, held}
+use Rattle.php_ast.specs.expression.Tree.{Tree, leaf, template, enclosed, listed, exit, exit_empty, static_member, append, index, selected, computed, call, new, new_with, prefix, count, binary, instance_of, instance_of_static, choice, short_choice, assign, yield_nothing, yield_value, yield_pair}
 use Rattle.php_ast.specs.expression.Tree.{Items, none, and, skip, Lead, plain, reference, spread, keyed, keyed_reference, Pieces, no_piece, bytes, value, Class, class_name, class_static, class_found, Steps, from, step_property, step_index}
 use Rattle.php_ast.specs.expression.Spelling.{spell, spell_items, spell_lead, spell_pieces, spell_class, spell_steps, comma, opening, list_opening, list_closing, setting_symbols}
 use Rattle.php_ast.specs.Operators.{binary_symbol, prefix_symbol}
 use Rattle.php_ast.specs.Power.{binary_row, choice_row, assign_row, prefix_power, yield_power}
-use Rattle.php_ast.specs.expression.Proper.{right, ends, is_call, is_none}
-use Rattle.php_grammar.specs.expression.Sign.{Beginning, is_leaf, is_static, is_quote, is_exit, is_new, is_yield, encloses, lists, prefixes, begins_nothing, beginning, Draw, joins, checks, chooses, sets, counts, applies, subscripts, selects, Closer, paren, bracket, brace, comma as closing_comma, double_arrow, colon, part_end, Continuation, draws, closes, neither, continuation, draw_strength, strength_of, strength, is_arrow, ends_yield, word_of, member_of, Mark, refers, spreads, ends_item, begins, item_mark, is_ampersand, is_paren, is_right_paren, is_right_bracket, is_left_brace, is_colon}
+use Rattle.php_ast.specs.expression.Proper.{right, ends, is_call, is_none, operand_level}
+use Rattle.php_grammar.specs.expression.Role.{Beginning, at_leaf, at_static, at_template, at_exit, at_new, at_yield, at_enclosed, at_listed, at_prefix, at_nothing, beginning, Draw, by_binary, by_instance_of, by_choice, by_assign, by_count, by_call, by_index, by_select, Closer, paren, bracket, brace, comma as closing_comma, double_arrow, colon, part_end, Continuation, draws, closes, neither, continuation, draw_strength, strength_of, strength, is_arrow, ends_yield, word_of, member_of, Mark, refers, spreads, ends_item, begins, item_mark, is_ampersand, is_paren, is_right_paren, is_right_bracket, is_left_brace, is_colon}
 
 -- What is read is a form: a tree that notes nothing of its tokens.
 abbrev pub Nothing : Type 0
@@ -46,7 +46,7 @@ pub data OpenForm : Type 0 where
   short_open : Form → OpenForm
   prefix_open : Prefix → OpenForm
   binary_open : Binary → Form → OpenForm
-  instance_open : Form → OpenForm
+  instance_of_open : Form → OpenForm
   assign_open : Setting → Form → OpenForm
   yield_open : OpenForm
   yield_value_open : Form → OpenForm
@@ -95,17 +95,13 @@ pub data State : Type 0 where
 
 -- ---- which operators an open form keeps inside
 
--- behind `instanceof`, where only an operand may stand
-abbrev pub operand_level : ℕ
-operand_level = 90
-
 -- an operator of less power ends the form
 abbrev pub least_power_at : OpenForm → ℕ
 least_power_at (else_open c a) = right choice_row
 least_power_at (short_open c) = right choice_row
 least_power_at (prefix_open op) = suc (prefix_power op)
 least_power_at (binary_open op l) = right (binary_row op)
-least_power_at (instance_open l) = operand_level
+least_power_at (instance_of_open l) = operand_level
 least_power_at (assign_open how l) = right assign_row
 least_power_at yield_open = suc yield_power
 least_power_at (yield_value_open k) = suc yield_power
@@ -155,7 +151,7 @@ is_arguments (of_list listing) = false
 
 abbrev pub may_end : Holder → Items Nothing → Bool
 may_end (of_list (array form)) items = true
-may_end (of_list isset) items = false
+may_end (of_list is_set) items = false
 may_end _ items = is_none items
 
 -- the items where a list ends behind a comma, or behind its opening token
@@ -177,7 +173,7 @@ completed (else_open c a) e = choice c a e
 completed (short_open c) e = short_choice c e
 completed (prefix_open op) e = prefix tt op e
 completed (binary_open op l) e = binary op l e
-completed (instance_open l) e = instance l e
+completed (instance_of_open l) e = instance_of l e
 completed (assign_open how l) e = assign how l e
 completed yield_open e = yield_value tt e
 completed (yield_value_open k) e = yield_pair tt k e
@@ -199,11 +195,11 @@ is_call_at (items_open (of_call f) items lead) = true
 is_call_at _ = false
 
 abbrev pub seated : Bool → OpenForms → Form → Form
-seated true (instance_open l ∷ s) e = append e
+seated true (instance_of_open l ∷ s) e = append e
 seated _ s e = e
 
 abbrev pub seat_end : Bool → OpenForms → List Symbol → List Symbol
-seat_end true (instance_open l ∷ s) w = punct mark.LeftBracket ∷ punct mark.RightBracket ∷ w
+seat_end true (instance_of_open l ∷ s) w = punct mark.LeftBracket ∷ punct mark.RightBracket ∷ w
 seat_end _ s w = w
 
 abbrev pub completed_all : OpenForms → Form → Form
@@ -233,7 +229,7 @@ opening_part (else_open c a) w = spell c (punct mark.Question ∷ spell a (punct
 opening_part (short_open c) w = spell c (punct mark.Question ∷ punct mark.Colon ∷ w)
 opening_part (prefix_open op) w = prefix_symbol op ∷ w
 opening_part (binary_open op l) w = spell l (binary_symbol op ∷ w)
-opening_part (instance_open l) w = spell l (keyword word.InstanceOf ∷ w)
+opening_part (instance_of_open l) w = spell l (keyword word.InstanceOf ∷ w)
 opening_part (assign_open how l) w = spell l (setting_symbols how w)
 opening_part yield_open w = keyword word.Yield ∷ w
 opening_part (yield_value_open k) w = keyword word.Yield ∷ spell k (punct mark.DoubleArrow ∷ w)
@@ -264,7 +260,7 @@ released arrow n (f ∷ s) e =
 
 -- what a closed form leads to
 abbrev pub after_by : Bool → Form → OpenForms → State
-after_by true e (instance_open l ∷ s) = holds_call e (instance_open l ∷ s)
+after_by true e (instance_of_open l ∷ s) = holds_call e (instance_of_open l ∷ s)
 after_by _ e s = holds e s
 
 abbrev pub after : Form → OpenForms → State
@@ -275,14 +271,14 @@ assigning setting.Plain e s = past_assign e s
 assigning op e s = expects (assign_open (by_value op) e ∷ s)
 
 abbrev pub opened_by : Draw → Form → OpenForms → State
-opened_by (joins op) e s = expects (binary_open op e ∷ s)
-opened_by checks e s = expects (instance_open e ∷ s)
-opened_by chooses e s = past_question e s
-opened_by (sets op) e s = assigning op e s
-opened_by (counts count) e s = holds (counted e count) s
-opened_by applies e s = past_items (of_call e) none s
-opened_by subscripts e s = past_index e s
-opened_by (selects arrow) e s = past_arrow arrow e s
+opened_by (by_binary op) e s = expects (binary_open op e ∷ s)
+opened_by by_instance_of e s = expects (instance_of_open e ∷ s)
+opened_by by_choice e s = past_question e s
+opened_by (by_assign op) e s = assigning op e s
+opened_by (by_count way) e s = holds (count e way) s
+opened_by by_call e s = past_items (of_call e) none s
+opened_by by_index e s = past_index e s
+opened_by (by_select arrow) e s = past_arrow arrow e s
 
 abbrev pub is_plain : Lead Nothing → Bool
 is_plain plain = true
@@ -321,18 +317,18 @@ goes_on e s x = continued x (released (is_arrow x) (strength_of x) s e)
 
 -- where an expression is due
 abbrev pub started : Beginning → OpenForms → Option State
-started (is_leaf l) s = Some (holds (leaf tt l) s)
-started is_static s = Some (past_static s)
-started is_quote s = Some (past_template no_piece s)
-started is_exit s = Some (past_exit s)
-started is_new s = Some (past_new s)
-started is_yield s = allowed_if (nat_lt (least_power s) operand_level) (past_yield s)
-started (encloses parentheses) s = Some (expects (enclosed_open parentheses ∷ s))
-started (encloses enclosure) s = Some (due_enclosed enclosure s)
-started (lists (array form.Brackets)) s = Some (past_items (of_list (array form.Brackets)) none s)
-started (lists listing) s = Some (due_listed listing s)
-started (prefixes op) s = allowed_if (nat_lt (least_power s) operand_level) (expects (prefix_open op ∷ s))
-started begins_nothing s = None
+started (at_leaf l) s = Some (holds (leaf tt l) s)
+started at_static s = Some (past_static s)
+started at_template s = Some (past_template no_piece s)
+started at_exit s = Some (past_exit s)
+started at_new s = Some (past_new s)
+started at_yield s = allowed_if (nat_lt (least_power s) operand_level) (past_yield s)
+started (at_enclosed parentheses) s = Some (expects (enclosed_open parentheses ∷ s))
+started (at_enclosed enclosure) s = Some (due_enclosed enclosure s)
+started (at_listed (array form.Brackets)) s = Some (past_items (of_list (array form.Brackets)) none s)
+started (at_listed listing) s = Some (due_listed listing s)
+started (at_prefix op) s = allowed_if (nat_lt (least_power s) operand_level) (expects (prefix_open op ∷ s))
+started at_nothing s = None
 
 abbrev pub start : OpenForms → Symbol → Option State
 start s t = started (beginning t) s
@@ -352,11 +348,11 @@ item_step (ends_item c) h items s t = ended_by c h items s
 item_step begins h items s t = start (items_open h items plain ∷ s) t
 
 abbrev pub static_alone : OpenForms → Continuation → Option State
-static_alone (instance_open l ∷ s) x = goes_on (static_instance l tt) s x
+static_alone (instance_of_open l ∷ s) x = goes_on (instance_of_static l tt) s x
 static_alone _ x = None
 
 abbrev pub static_step : OpenForms → Continuation → Option State
-static_step s (draws (selects colons)) = Some (past_static_colons s)
+static_step s (draws (by_select colons)) = Some (past_static_colons s)
 static_step s x = static_alone s x
 
 abbrev pub template_step : Pieces Nothing → OpenForms → Symbol → Option State
@@ -381,9 +377,9 @@ new_step s (keyword word.Static) = Some (past_class (class_static tt) s)
 new_step s _ = None
 
 abbrev pub class_step : Class Nothing → OpenForms → Continuation → Option State
-class_step class s (draws applies) = Some (past_items (of_new class) none s)
-class_step (class_found steps) s (draws subscripts) = Some (expects (step_open steps ∷ s))
-class_step (class_found steps) s (draws (selects thin)) = Some (past_step steps s)
+class_step class s (draws by_call) = Some (past_items (of_new class) none s)
+class_step (class_found steps) s (draws by_index) = Some (expects (step_open steps ∷ s))
+class_step (class_found steps) s (draws (by_select thin)) = Some (past_step steps s)
 class_step class s x = goes_on (new tt class) s x
 
 abbrev pub advance : State → Symbol → Option State
@@ -437,7 +433,7 @@ abbrev pub any_member : Member Nothing
 any_member = held tt []
 
 abbrev pub halt_static : OpenForms → List Symbol → Reading
-halt_static (instance_open l ∷ s) w = halt_whole (static_instance l tt) s w
+halt_static (instance_of_open l ∷ s) w = halt_whole (instance_of_static l tt) s w
 halt_static s w = record {
   tree = completed_all s (static_member tt any_member);
   missing = punct mark.DoubleColon ∷ any_symbol ∷ missing_end s;

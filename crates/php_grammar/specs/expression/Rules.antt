@@ -3,9 +3,9 @@
 use Rattle.std.specs.Prelude.{◌≤◌, ◌<◌, ◌⊎◌, ◌↔◌, ◌==◌, ℕ, Bool, true, false, if◌then◌else◌, List, [], ◌∷◌}
 use Rattle.php_ast.specs.declared.operator.Binary.{Binary}
 use Rattle.php_ast.specs.declared.operator.Prefix.{Prefix}
-use Rattle.php_ast.specs.expression.Tree.{Tree, prefix, binary, instance, static_instance, choice, short_choice, assign, yield_nothing, yield_value, yield_pair}
-use Rattle.php_ast.specs.Power.{Grouping, to_left, to_right, Row, binary_row, choice_row, instance_row, assign_row, prefix_power, yield_power}
-use Rattle.php_ast.specs.expression.Proper.{power, FitsLeft, FitsRight, Proper}
+use Rattle.php_ast.specs.expression.Tree.{Tree, prefix, binary, instance_of, instance_of_static, choice, short_choice, assign, yield_nothing, yield_value, yield_pair}
+use Rattle.php_ast.specs.Power.{Grouping, to_left, to_right, Row, binary_row, choice_row, instance_of_row, assign_row, prefix_power, yield_power}
+use Rattle.php_ast.specs.expression.Proper.{open_yield, power, FitsLeft, FitsRight, Proper}
 use Rattle.php_grammar.specs.expression.Machine.{Form}
 
 -- The powers of the operators whose last operand ends the tree, taken inwards. Of `instanceof` it is its power alone.
@@ -13,12 +13,12 @@ use Rattle.php_grammar.specs.expression.Machine.{Form}
 abbrev pub ending_powers : {S : Type 0} → Tree S → List ℕ
 ending_powers (prefix spot op e) = prefix_power op ∷ ending_powers e
 ending_powers (binary op l r) = (binary_row op).power ∷ ending_powers r
-ending_powers (instance l r) = instance_row.power ∷ []
-ending_powers (static_instance l spot) = instance_row.power ∷ []
+ending_powers (instance_of l r) = instance_of_row.power ∷ []
+ending_powers (instance_of_static l spot) = instance_of_row.power ∷ []
 ending_powers (choice c a b) = choice_row.power ∷ ending_powers b
 ending_powers (short_choice c b) = choice_row.power ∷ ending_powers b
 ending_powers (assign how l r) = assign_row.power ∷ ending_powers r
-ending_powers (yield_nothing spot) = 1 ∷ []
+ending_powers (yield_nothing spot) = open_yield ∷ []
 ending_powers (yield_value spot v) = yield_power ∷ ending_powers v
 ending_powers (yield_pair spot k v) = yield_power ∷ ending_powers v
 ending_powers _ = []
@@ -30,8 +30,8 @@ AllAbove p (q ∷ qs) = (p < q) × AllAbove p qs
 -- an operand, a form with `++` or `--` behind it, a prefix operator, an assignment
 abbrev pub IsFree : {S : Type 0} → Tree S → Type 0
 IsFree (binary op l r) = ⊥
-IsFree (instance l r) = ⊥
-IsFree (static_instance l spot) = ⊥
+IsFree (instance_of l r) = ⊥
+IsFree (instance_of_static l spot) = ⊥
 IsFree (choice c a b) = ⊥
 IsFree (short_choice c b) = ⊥
 IsFree _ = Unit {0}
@@ -77,7 +77,7 @@ pub record Agrees (row : Row) (l r : Form) : Type 0 where
 pub record PowersAgree (l r : Form) : Type 0 where
   pub binary_agrees : (op : Binary) → Agrees (binary_row op) l r
   pub choice_agrees : Agrees choice_row l r
-  pub instance_agrees : FitsLeft instance_row l ↔ RuleLeft instance_row l
+  pub instance_of_agrees : FitsLeft instance_of_row l ↔ RuleLeft instance_of_row l
   pub assign_agrees : FitsRight assign_row r ↔ RuleRight assign_row.grouping assign_row.power r
   pub prefix_agrees : (op : Prefix) → (prefix_power op < power r) ↔ RulePrefix (prefix_power op) r
   pub yield_agrees : (yield_power < power r) ↔ RulePrefix yield_power r

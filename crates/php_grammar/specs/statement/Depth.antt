@@ -1,13 +1,13 @@
 -- How deep a symbol of a statement is nested, by what was read before it.
 use Rattle.std.specs.Prelude.{ℕ, ◌+◌, nat_lt, Bool, true, false, List, [], ◌∷◌}
 use Rattle.php_ast.specs.Symbol.{Symbol}
-use Rattle.php_grammar.specs.expression.Sign.{is_colon}
+use Rattle.php_grammar.specs.expression.Role.{is_colon}
 use Rattle.php_grammar.specs.expression.Machine.{pick, advance}
 use Rattle.php_grammar.specs.expression.Depth.{depth_at}
 use Rattle.php_grammar.specs.TooDeep.{depth_inside, depths_taken}
-use Rattle.php_grammar.specs.statement.Sign.{StatementBeginning, at_block, statement_beginning, Behind, by_catch, by_finally, behind, body_strength, ends_outside, Fixed, right_paren}
+use Rattle.php_grammar.specs.statement.Role.{StatementBeginning, at_block, statement_beginning, Behind, by_catch, by_finally, behind, body_strength, ends_outside, Fixed, right_paren}
 use Rattle.php_grammar.specs.statement.Forms.{of_block, list_open, if_open, loop_open, OpenStatement, Around, Values, of_echo, ExpressionPlace, as_value, as_test, as_walked, as_first, as_second, as_label, Names, of_classes, of_declare, StatementState, due_statement, done, due, in_expression, due_in_list, due_value, due_name, past_name, due_int, past_static_word, past_jump, past_if, past_loop, past_as, past_key, past_switch, due_case, past_default, past_block}
-use Rattle.php_grammar.specs.statement.Machine.{body_level, advance_statement}
+use Rattle.php_grammar.specs.statement.Machine.{least_strength, advance_statement}
 
 -- ---- open forms
 
@@ -56,7 +56,7 @@ form_depth (f ∷ o) t = statement_depth o
 -- the forms in which a symbol goes on
 abbrev pub kept_bodies : ℕ → Around → Around
 kept_bodies n [] = []
-kept_bodies n (f ∷ o) = pick (nat_lt n (body_level f)) (kept_bodies n o) (f ∷ o)
+kept_bodies n (f ∷ o) = pick (nat_lt n (least_strength f)) (kept_bodies n o) (f ∷ o)
 
 abbrev pub depth_past : Around → Symbol → ℕ
 depth_past o t = form_depth (kept_bodies (body_strength (behind t)) o) t

@@ -7,7 +7,7 @@ use Rattle.php_grammar.specs.expression.Machine.{Nothing, Form, State, any}
 use Rattle.php_ast.specs.statement.Tree.{Sequence, Name, Variable, Constant, Target, Jump}
 use Rattle.php_ast.specs.statement.Tree.{Statement, block, if_only, if_else, if_lists, if_else_lists, while, do_while, for, foreach, switch, try_catch, try_finally}
 use Rattle.php_ast.specs.statement.Tree.{Statements, no_statement, and_statement, ElseIfs, no_elseif, and_elseif, ElseIfLists, no_elseif_list, and_elseif_list, Body, single, list_behind_colon, Cases, and_case, Catches, no_catch, and_catch}
-use Rattle.php_grammar.specs.statement.Sign.{Fixed}
+use Rattle.php_grammar.specs.statement.Role.{Fixed}
 
 -- ---- what is open
 

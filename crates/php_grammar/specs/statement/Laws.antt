@@ -7,7 +7,7 @@ use Rattle.php_grammar.specs.expression.Machine.{Nothing}
 use Rattle.php_ast.specs.statement.Tree.{Statement, if_only, if_else, while, for, foreach, try_catch, ElseIfs, no_elseif, and_elseif, Body, single, list_behind_colon}
 use Rattle.php_ast.specs.statement.Spelling.{spell_statement}
 use Rattle.php_ast.specs.statement.Proper.{takes_else, IsProper}
-use Rattle.php_grammar.specs.statement.Sign.{Behind, by_other, by_catch, by_finally, behind, body_strength}
+use Rattle.php_grammar.specs.statement.Role.{Behind, by_other, by_catch, by_finally, behind, body_strength}
 use Rattle.php_ast.specs.statement.Placed.{size_statement, statement_form, IsPlacedStatement}
 use Rattle.php_ast.specs.statement.Nesting.{nests_statement}
 use Rattle.php_grammar.specs.statement.Forms.{due_statement}

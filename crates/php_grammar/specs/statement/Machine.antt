@@ -9,24 +9,28 @@ use Rattle.php_ast.specs.declared.statement.CaseEnd.TheVariants as case_end
 use Rattle.php_ast.specs.Symbol as symbol
 use Rattle.php_ast.specs.Symbol.{Symbol}
 use Rattle.php_ast.specs.expression.Tree.{Items, none, and, plain}
-use Rattle.php_grammar.specs.expression.Sign.{Closer, paren, comma, double_arrow, colon, semicolon, is_ampersand, is_colon, is_left_brace}
+use Rattle.php_grammar.specs.expression.Role.{Closer, paren, comma, double_arrow, colon, semicolon, is_ampersand, is_colon, is_left_brace}
 use Rattle.php_grammar.specs.expression.Machine.{Nothing, Form, State, expects, past_static, pick, advance}
 use Rattle.php_grammar.specs.Run.{either, if_some, through_expression}
 use Rattle.php_ast.specs.statement.Tree.{Sequence, empty, then_also, Name, Target}
 use Rattle.php_ast.specs.statement.Tree.{Statement, block, blank, inline, expression, echo, globals, statics, unset, constants, jump, throw, if_lists, if_else_lists, while, do_while, for, foreach, switch, try_catch, try_finally, declares}
 use Rattle.php_ast.specs.statement.Tree.{Statements, no_statement, and_statement, no_elseif, and_elseif, ElseIfLists, no_elseif_list, and_elseif_list, list_behind_colon, Cases, no_case, and_case, Catches, no_catch, and_catch}
 use Rattle.php_grammar.specs.statement.Forms.{Loop, while_loop, for_loop, foreach_loop, StatementList, of_block, of_if, of_elseif, of_else, of_loop, of_case, of_try, of_catch, of_finally, list_open, if_open, elseif_open, else_open, loop_open, do_open, OpenStatement, Around, Head, if_head, elseif_head, elseif_list_head, while_head, do_head, switch_head, Values, of_echo, of_unset, of_starts, of_tests, of_steps, ExpressionPlace, as_line, as_value, as_static, as_constant, as_jump, as_thrown, as_test, as_walked, as_first, as_second, as_label, Names, of_globals, of_statics, of_constants, of_classes, of_declare, StatementState, due_statement, done, due, in_expression, due_in_list, due_value, due_name, past_name, due_int, past_static_word, past_jump, past_if, past_loop, past_as, past_key, past_switch, due_case, past_default, past_block, completed_statement}
-use Rattle.php_grammar.specs.statement.Sign.{StatementBeginning, at_block, at_blank, at_inline, at_echo, at_global, at_static, at_unset, at_const, at_jump, at_throw, at_if, at_while, at_do, at_for, at_foreach, at_switch, at_try, at_declare, at_expression, statement_beginning, Behind, by_else, by_elseif, by_while, by_case, by_default, by_brace, by_endif, by_endwhile, by_endfor, by_endforeach, by_endswitch, by_catch, by_finally, behind, body_strength, Ending, closer, as_word, ending, Fixed, left_paren, right_paren, left_brace, colon_sign, semicolon_sign, is_fixed, is_semicolon, is_assign, is_bar, name_text, variable_text}
+use Rattle.php_grammar.specs.statement.Role.{StatementBeginning, at_block, at_blank, at_inline, at_echo, at_globals, at_statics, at_unset, at_constants, at_jump, at_throw, at_if, at_while, at_do, at_for, at_foreach, at_switch, at_try, at_declare, at_expression, statement_beginning, Behind, by_else, by_elseif, by_while, by_case, by_default, by_brace, by_endif, by_endwhile, by_endfor, by_endforeach, by_endswitch, by_catch, by_finally, behind, else_strength, body_strength, Ending, closer, as_word, ending, Fixed, left_paren, right_paren, left_brace, fixed_colon, fixed_semicolon, is_fixed, is_semicolon, is_assign, is_bar, name_text, variable_text}
 
 -- ---- which bodies a symbol ends
 
+-- No symbol has as much strength.
+abbrev pub above_else : ℕ
+above_else = 2
+
 -- A symbol of less strength ends the form.
-abbrev pub body_level : OpenStatement → ℕ
-body_level (if_open test) = 1
-body_level (elseif_open test body parts last) = 1
-body_level (else_open test body parts) = 2
-body_level (loop_open loop) = 2
-body_level _ = 0
+abbrev pub least_strength : OpenStatement → ℕ
+least_strength (if_open test) = else_strength
+least_strength (elseif_open test body parts last) = else_strength
+least_strength (else_open test body parts) = above_else
+least_strength (loop_open loop) = above_else
+least_strength _ = 0
 
 pub record ReachedStatement : Type 0 where
   pub tree : Statement Nothing
@@ -36,7 +40,7 @@ pub record ReachedStatement : Type 0 where
 abbrev pub released_bodies : ℕ → Around → Statement Nothing → ReachedStatement
 released_bodies n [] a = record { tree = a; around = [] }
 released_bodies n (f ∷ o) a =
-    pick (nat_lt n (body_level f)) (released_bodies n o (completed_statement f a)) (record { tree = a; around = f ∷ o })
+    pick (nat_lt n (least_strength f)) (released_bodies n o (completed_statement f a)) (record { tree = a; around = f ∷ o })
 
 -- ---- steps
 
@@ -60,10 +64,10 @@ begun at_block o t = Some (listing of_block o)
 begun at_blank o t = Some (done (blank tt) o)
 begun (at_inline text) o t = Some (done (inline tt text) o)
 begun at_echo o t = Some (expected (as_value of_echo none) o)
-begun at_global o t = Some (due_name (of_globals empty) o)
-begun at_static o t = Some (past_static_word o)
+begun at_globals o t = Some (due_name (of_globals empty) o)
+begun at_statics o t = Some (past_static_word o)
 begun at_unset o t = Some (due (left_paren ∷ []) (expected (as_value of_unset none) o))
-begun at_const o t = Some (due_name (of_constants empty) o)
+begun at_constants o t = Some (due_name (of_constants empty) o)
 begun (at_jump kind) o t = Some (past_jump kind o)
 begun at_throw o t = Some (expected as_thrown o)
 begun at_if o t = Some (headed if_head o)
@@ -90,7 +94,7 @@ due_step (x ∷ xs) m t = pick (is_fixed x t) (Some (due_rest xs m)) None
 
 -- where a form ends with `;`
 abbrev pub before_semicolon : Statement Nothing → Around → StatementState
-before_semicolon a o = due (semicolon_sign ∷ []) (done a o)
+before_semicolon a o = due (fixed_semicolon ∷ []) (done a o)
 
 -- ---- lists
 
@@ -105,7 +109,7 @@ case_step e form cases o _ = None
 -- behind a list of an `if`, whose parts so far are given
 abbrev pub lists_step : Form → Statements Nothing → ElseIfLists Nothing → Around → Behind → Option StatementState
 lists_step test body parts o by_elseif = Some (headed (elseif_list_head test body parts) o)
-lists_step test body parts o by_else = Some (due (colon_sign ∷ []) (listing (of_else test body parts) o))
+lists_step test body parts o by_else = Some (due (fixed_colon ∷ []) (listing (of_else test body parts) o))
 lists_step test body parts o by_endif = Some (before_semicolon (if_lists tt test body parts) o)
 lists_step test body parts o _ = None
 
@@ -175,7 +179,7 @@ values_step values items o _ = None
 abbrev pub tested : Head → Form → Around → StatementState
 tested if_head e o = past_if e o
 tested (elseif_head test body parts) e o = due_statement (elseif_open test body parts e ∷ o)
-tested (elseif_list_head test body parts) e o = due (colon_sign ∷ []) (listing (of_elseif test body parts e) o)
+tested (elseif_list_head test body parts) e o = due (fixed_colon ∷ []) (listing (of_elseif test body parts e) o)
 tested while_head e o = past_loop (while_loop e) o
 tested (do_head a) e o = before_semicolon (do_while tt a e) o
 tested switch_head e o = past_switch e o

@@ -14,7 +14,7 @@ use Rattle.php_grammar.specs.Run.{ReadingOf, reading, if_whole, run_of, around_e
 use Rattle.php_ast.specs.statement.Tree.{empty, then_also, Name, Statement, blank, expression, echo, globals, statics, unset, constants, jump, throw, if_only, if_lists, while, do_while, for, foreach, switch, try_catch, try_finally, declares}
 use Rattle.php_ast.specs.statement.Tree.{no_statement, no_elseif, and_elseif, and_elseif_list, single, no_case, and_case, no_catch, and_catch}
 use Rattle.php_ast.specs.statement.Spelling.{cases_closing}
-use Rattle.php_grammar.specs.statement.Sign.{Fixed, fixed_symbol}
+use Rattle.php_grammar.specs.statement.Role.{Fixed, fixed_symbol}
 use Rattle.php_grammar.specs.statement.Forms.{Loop, while_loop, for_loop, foreach_loop, StatementList, of_if, of_elseif, of_else, of_loop, of_case, of_try, list_open, do_open, OpenStatement, Around, Head, if_head, elseif_head, elseif_list_head, while_head, do_head, switch_head, Values, of_echo, of_unset, of_starts, of_tests, of_steps, ExpressionPlace, as_line, as_value, as_static, as_constant, as_jump, as_thrown, as_test, as_walked, as_first, as_second, as_label, Names, of_globals, of_statics, of_constants, of_classes, of_declare, StatementState, due_statement, done, due, in_expression, due_in_list, due_value, due_name, past_name, due_int, past_static_word, past_jump, past_if, past_loop, past_as, past_key, past_switch, due_case, past_default, past_block, looped, listed_statement, completed_statement}
 use Rattle.php_grammar.specs.statement.Machine.{target, advance_statement}
 
@@ -24,11 +24,11 @@ use Rattle.php_grammar.specs.statement.Machine.{target, advance_statement}
 abbrev pub any_statement : Statement Nothing
 any_statement = blank tt
 
-abbrev pub end_sign : Symbol
-end_sign = punct mark.Semicolon
+abbrev pub end_symbol : Symbol
+end_symbol = punct mark.Semicolon
 
-abbrev pub right_paren_sign : Symbol
-right_paren_sign = punct mark.RightParen
+abbrev pub right_paren_symbol : Symbol
+right_paren_symbol = punct mark.RightParen
 
 abbrev pub braces : List Symbol → List Symbol
 braces w = punct mark.LeftBrace ∷ punct mark.RightBrace ∷ w
@@ -42,17 +42,17 @@ loop_word (for_loop starts tests steps) = word.EndFor
 loop_word (foreach_loop walked key value) = word.EndForeach
 
 abbrev pub list_rest : StatementList → List Symbol → List Symbol
-list_rest (of_if test) w = keyword word.EndIf ∷ end_sign ∷ w
-list_rest (of_elseif test body parts last) w = keyword word.EndIf ∷ end_sign ∷ w
-list_rest (of_else test body parts) w = keyword word.EndIf ∷ end_sign ∷ w
-list_rest (of_loop loop) w = keyword (loop_word loop) ∷ end_sign ∷ w
+list_rest (of_if test) w = keyword word.EndIf ∷ end_symbol ∷ w
+list_rest (of_elseif test body parts last) w = keyword word.EndIf ∷ end_symbol ∷ w
+list_rest (of_else test body parts) w = keyword word.EndIf ∷ end_symbol ∷ w
+list_rest (of_loop loop) w = keyword (loop_word loop) ∷ end_symbol ∷ w
 list_rest (of_case e form cases label end) w = cases_closing form w
 list_rest of_try w = punct mark.RightBrace ∷ keyword word.Finally ∷ braces w
 list_rest _ w = punct mark.RightBrace ∷ w
 
 abbrev pub form_rest : OpenStatement → List Symbol → List Symbol
 form_rest (list_open list ss) w = list_rest list w
-form_rest do_open w = keyword word.While ∷ punct mark.LeftParen ∷ any_symbol ∷ right_paren_sign ∷ end_sign ∷ w
+form_rest do_open w = keyword word.While ∷ punct mark.LeftParen ∷ any_symbol ∷ right_paren_symbol ∷ end_symbol ∷ w
 form_rest _ w = w
 
 abbrev pub completed_around : Around → Statement Nothing → Statement Nothing
@@ -73,10 +73,10 @@ values_statement (of_tests starts) items = for tt starts items none (single any_
 values_statement (of_steps starts tests) items = for tt starts tests items (single any_statement)
 
 abbrev pub values_rest : Values → List Symbol → List Symbol
-values_rest of_echo w = end_sign ∷ w
-values_rest of_starts w = end_sign ∷ end_sign ∷ right_paren_sign ∷ end_sign ∷ w
-values_rest (of_tests starts) w = end_sign ∷ right_paren_sign ∷ end_sign ∷ w
-values_rest _ w = right_paren_sign ∷ end_sign ∷ w
+values_rest of_echo w = end_symbol ∷ w
+values_rest of_starts w = end_symbol ∷ end_symbol ∷ right_paren_symbol ∷ end_symbol ∷ w
+values_rest (of_tests starts) w = end_symbol ∷ right_paren_symbol ∷ end_symbol ∷ w
+values_rest _ w = right_paren_symbol ∷ end_symbol ∷ w
 
 abbrev pub tested_statement : Head → Form → Statement Nothing
 tested_statement if_head e = if_only tt e any_statement no_elseif
@@ -87,9 +87,9 @@ tested_statement (do_head a) e = do_while tt a e
 tested_statement switch_head e = switch tt e switch_form.Braces no_case
 
 abbrev pub head_rest : Head → List Symbol → List Symbol
-head_rest (elseif_list_head test body parts) w = right_paren_sign ∷ punct mark.Colon ∷ keyword word.EndIf ∷ end_sign ∷ w
-head_rest switch_head w = right_paren_sign ∷ braces w
-head_rest _ w = right_paren_sign ∷ end_sign ∷ w
+head_rest (elseif_list_head test body parts) w = right_paren_symbol ∷ punct mark.Colon ∷ keyword word.EndIf ∷ end_symbol ∷ w
+head_rest switch_head w = right_paren_symbol ∷ braces w
+head_rest _ w = right_paren_symbol ∷ end_symbol ∷ w
 
 abbrev pub placed_statement : ExpressionPlace → Form → Statement Nothing
 placed_statement as_line e = expression tt e
@@ -107,11 +107,11 @@ placed_statement (as_label e form cases) label = switch tt e form (and_case case
 abbrev pub place_rest : ExpressionPlace → List Symbol → List Symbol
 place_rest (as_value values items) w = values_rest values w
 place_rest (as_test head) w = head_rest head w
-place_rest as_walked w = keyword word.As ∷ any_symbol ∷ right_paren_sign ∷ end_sign ∷ w
-place_rest (as_first walked is_reference) w = right_paren_sign ∷ end_sign ∷ w
-place_rest (as_second walked key is_reference) w = right_paren_sign ∷ end_sign ∷ w
-place_rest (as_label e form cases) w = end_sign ∷ cases_closing form w
-place_rest _ w = end_sign ∷ w
+place_rest as_walked w = keyword word.As ∷ any_symbol ∷ right_paren_symbol ∷ end_symbol ∷ w
+place_rest (as_first walked is_reference) w = right_paren_symbol ∷ end_symbol ∷ w
+place_rest (as_second walked key is_reference) w = right_paren_symbol ∷ end_symbol ∷ w
+place_rest (as_label e form cases) w = end_symbol ∷ cases_closing form w
+place_rest _ w = end_symbol ∷ w
 
 abbrev pub named_statement : Names → Name Nothing → Statement Nothing
 named_statement (of_globals names) n = globals tt (then_also names n)
@@ -121,16 +121,16 @@ named_statement (of_classes body catches classes) n = try_catch tt body (and_cat
 named_statement of_declare n = declares tt n (pos 0)
 
 -- a name that is due in them, and what stands behind it
-abbrev pub name_sign : Names → Symbol
-name_sign (of_globals names) = any_symbol
-name_sign (of_statics xs) = any_symbol
-name_sign _ = symbol.name []
+abbrev pub name_symbol : Names → Symbol
+name_symbol (of_globals names) = any_symbol
+name_symbol (of_statics xs) = any_symbol
+name_symbol _ = symbol.name []
 
 abbrev pub name_rest : Names → List Symbol → List Symbol
-name_rest (of_constants xs) w = punct mark.Assign ∷ any_symbol ∷ end_sign ∷ w
-name_rest (of_classes body catches classes) w = any_symbol ∷ right_paren_sign ∷ braces w
-name_rest of_declare w = punct mark.Assign ∷ symbol.int (pos 0) ∷ right_paren_sign ∷ end_sign ∷ w
-name_rest _ w = end_sign ∷ w
+name_rest (of_constants xs) w = punct mark.Assign ∷ any_symbol ∷ end_symbol ∷ w
+name_rest (of_classes body catches classes) w = any_symbol ∷ right_paren_symbol ∷ braces w
+name_rest of_declare w = punct mark.Assign ∷ symbol.int (pos 0) ∷ right_paren_symbol ∷ end_symbol ∷ w
+name_rest _ w = end_symbol ∷ w
 
 -- ---- a whole reading
 
@@ -149,30 +149,30 @@ abbrev pub behind_fixed : List Fixed → StatementReading → StatementReading
 behind_fixed xs r = reading r.tree (fixed_symbols xs r.missing) r.unread
 
 abbrev pub halt_statement : StatementState → List Symbol → StatementReading
-halt_statement (due_statement o) w = stopped any_statement o (end_sign ∷ missing_around o) w
+halt_statement (due_statement o) w = stopped any_statement o (end_symbol ∷ missing_around o) w
 halt_statement (done a o) w = stopped a o (missing_around o) w
 halt_statement (due xs m) w = behind_fixed xs (halt_statement m w)
 halt_statement (in_expression place m o) w =
     around_expression (λ e. completed_around o (placed_statement place e)) m (place_rest place (missing_around o)) w
 halt_statement (due_in_list list ss o) w = stopped (listed_statement list ss) o (list_rest list (missing_around o)) w
 halt_statement (due_value values o) w = stopped (values_statement values none) o (values_rest values (missing_around o)) w
-halt_statement (due_name names o) w = stopped (named_statement names any_name) o (name_sign names ∷ name_rest names (missing_around o)) w
+halt_statement (due_name names o) w = stopped (named_statement names any_name) o (name_symbol names ∷ name_rest names (missing_around o)) w
 halt_statement (past_name names n o) w = stopped (named_statement names n) o (name_rest names (missing_around o)) w
 halt_statement (due_int n o) w =
-    stopped (declares tt n (pos 0)) o (symbol.int (pos 0) ∷ right_paren_sign ∷ end_sign ∷ missing_around o) w
+    stopped (declares tt n (pos 0)) o (symbol.int (pos 0) ∷ right_paren_symbol ∷ end_symbol ∷ missing_around o) w
 halt_statement (past_static_word o) w =
-    stopped (named_statement (of_statics empty) any_name) o (any_symbol ∷ end_sign ∷ missing_around o) w
-halt_statement (past_jump kind o) w = stopped (jump tt kind None) o (end_sign ∷ missing_around o) w
-halt_statement (past_if test o) w = stopped (if_only tt test any_statement no_elseif) o (end_sign ∷ missing_around o) w
-halt_statement (past_loop loop o) w = stopped (looped loop (single any_statement)) o (end_sign ∷ missing_around o) w
+    stopped (named_statement (of_statics empty) any_name) o (any_symbol ∷ end_symbol ∷ missing_around o) w
+halt_statement (past_jump kind o) w = stopped (jump tt kind None) o (end_symbol ∷ missing_around o) w
+halt_statement (past_if test o) w = stopped (if_only tt test any_statement no_elseif) o (end_symbol ∷ missing_around o) w
+halt_statement (past_loop loop o) w = stopped (looped loop (single any_statement)) o (end_symbol ∷ missing_around o) w
 halt_statement (past_as walked o) w =
-    stopped (placed_statement (as_first walked false) any) o (any_symbol ∷ right_paren_sign ∷ end_sign ∷ missing_around o) w
+    stopped (placed_statement (as_first walked false) any) o (any_symbol ∷ right_paren_symbol ∷ end_symbol ∷ missing_around o) w
 halt_statement (past_key walked key o) w =
-    stopped (placed_statement (as_second walked key false) any) o (any_symbol ∷ right_paren_sign ∷ end_sign ∷ missing_around o) w
+    stopped (placed_statement (as_second walked key false) any) o (any_symbol ∷ right_paren_symbol ∷ end_symbol ∷ missing_around o) w
 halt_statement (past_switch e o) w = stopped (switch tt e switch_form.Braces no_case) o (braces (missing_around o)) w
 halt_statement (due_case e form cases o) w = stopped (switch tt e form cases) o (cases_closing form (missing_around o)) w
 halt_statement (past_default e form cases o) w =
-    stopped (switch tt e form (and_case cases tt None case_end.Semicolon no_statement)) o (end_sign ∷ cases_closing form (missing_around o)) w
+    stopped (switch tt e form (and_case cases tt None case_end.Semicolon no_statement)) o (end_symbol ∷ cases_closing form (missing_around o)) w
 halt_statement (past_block body no_catch o) w =
     stopped (try_finally tt body no_catch no_statement) o (keyword word.Finally ∷ braces (missing_around o)) w
 halt_statement (past_block body (and_catch catches classes variable ss) o) w =

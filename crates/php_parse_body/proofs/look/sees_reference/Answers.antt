@@ -1,6 +1,6 @@
 use Rattle.std.proofs.Common.{refl}
 use Rattle.php_token.specs.Token.{token_at}
-use Rattle.php_grammar.specs.expression.Sign.{refers}
+use Rattle.php_grammar.specs.expression.Role.{refers}
 use Rattle.php_parse_body.proofs.Words.{marks_seen}
 use Rattle.php_parse_body.proofs.look.sees_reference.Goals as goal
 

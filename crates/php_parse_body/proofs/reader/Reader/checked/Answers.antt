@@ -1,6 +1,6 @@
 use Rattle.std.proofs.Common.{◌+◌, ◌∙◌, refl, arith, ap, sym}
 use Rattle.php_token.specs.Token.{token_at}
-use Rattle.php_ast.specs.expression.Tree.{static_instance}
+use Rattle.php_ast.specs.expression.Tree.{instance_of_static}
 use Rattle.php_parse_body.specs.SignView.{opening_view}
 use Rattle.php_parse_body.proofs.Joins.{instance_opens, static_instance_reads, no_operand, static_instance_spans, instance_rests}
 use Rattle.php_parse_body.proofs.reader.Reader.checked.Goals as goal
@@ -20,12 +20,12 @@ returns g c = λ level near f start spans is.
     let b = c.in-Some.ensures in
     let a = c.if-not-lacks_colons.ensures in
     record {
-      form = static_instance f tt;
+      form = instance_of_static f tt;
       spans = static_instance_spans c.args.tokens.now _ _ _ f start c.args.left.next c.in_ok-checked_static.ensures.shown c.spot.ensures spans;
       reads = static_instance_reads f b.token near (instance_opens o.token f o.stands.is o.role_is near (omega arith) c.requires.ready.deep) b.stands.is
           (b.role_is ∙ ap (λ k. opening_view k (token_at c.args.tokens.now (c.args.left.next + 1)).text) a.0) a.1 c.requires.ready.deep;
       edge_is = sym c.checked_edge.ensures;
-      rests = instance_rests (static_instance f tt) _ refl;
+      rests = instance_rests (instance_of_static f tt) _ refl;
       bare = λ h. cc;
       ahead = omega arith;
       within = omega (arith, b.stands.within);

@@ -1,6 +1,6 @@
 use Rattle.std.proofs.Common.{◌+◌, ◌∙◌, refl, arith, sym}
 use Rattle.std.proofs.lemmas.Result.{err_from_is_err_and}
-use Rattle.php_ast.specs.expression.Tree.{instance}
+use Rattle.php_ast.specs.expression.Tree.{instance_of}
 use Rattle.php_parse_body.proofs.Joins.{instance_opens, instance_reads, instance_halts, instance_fails, instance_spans, instance_rests}
 use Rattle.php_parse_body.proofs.reader.Reader.checked_class.Goals as goal
 
@@ -27,11 +27,11 @@ returns g c = λ level near f start spans is.
     let o = c.requires.here in
     let r = c.in_ok-class.ensures in
     record {
-      form = instance f r.form;
+      form = instance_of f r.form;
       spans = instance_spans c.args.tokens.now _ _ _ f r.form start c.args.left.next _ c.in_ok-checked.ensures.shown spans r.spans;
       reads = instance_reads f r.form near (instance_opens o.token f o.stands.is o.role_is near (omega arith) c.requires.ready.deep) r.reads (r.call_is ∙ c.if-class.false) r.rests;
       edge_is = sym c.checked_edge.ensures;
-      rests = instance_rests (instance f r.form) _ refl;
+      rests = instance_rests (instance_of f r.form) _ refl;
       bare = λ h. cc;
       ahead = omega (arith, r.ahead);
       within = r.within;

@@ -1,7 +1,7 @@
 use Rattle.std.proofs.Common.{◌+◌, refl, arith}
 use Rattle.std.proofs.lemmas.Result.{err_from_is_err_and}
 use Rattle.php_parse_body.proofs.Fails.{later}
-use Rattle.php_ast.specs.expression.Tree.{none, listed, isset}
+use Rattle.php_ast.specs.expression.Tree.{none, listed, is_set}
 use Rattle.php_grammar.specs.expression.Machine.{past_items, of_list}
 use Rattle.php_parse_body.proofs.Moves.{leads}
 use Rattle.php_parse_body.proofs.Listings.{isset_opens, isset_halts}
@@ -18,7 +18,7 @@ returns-in_err-values g c =
     let o = c.requires.here in
     let p = c.if-not-sees_paren.ensures in
     let q = err_from_is_err_and c.from_residual.result c.from_residual.ensures.1 in
-    rw (q.1, q.2) (later c.args.tokens.now c.args.at (c.args.at + 1 + 1) (λ s. past_items (of_list isset) none s) c.in_err-values.field-0.0 (omega arith)
+    rw (q.1, q.2) (later c.args.tokens.now c.args.at (c.args.at + 1 + 1) (λ s. past_items (of_list is_set) none s) c.in_err-values.field-0.0 (omega arith)
     (isset_opens o.token p.token o.stands.is o.role_is p.stands.is p.role_is c.requires.ready.deep) c.in_err-values.ensures)
 
 pub returns : goal.returns
@@ -27,9 +27,9 @@ returns g c =
     let p = c.if-not-sees_paren.ensures in
     let r = c.in_ok-values.ensures in
     record {
-      form = listed tt isset r.items;
-      spans = listed_spans c.args.tokens.now isset _ _ _ r.items c.args.at (c.args.at + 1 + 1) _ c.tested.ensures.shown c.spot.ensures r.spans (omega arith);
-      reads = leads (λ s. past_items (of_list isset) none s) (isset_opens o.token p.token o.stands.is o.role_is p.stands.is p.role_is c.requires.ready.deep) r.reads;
+      form = listed tt is_set r.items;
+      spans = listed_spans c.args.tokens.now is_set _ _ _ r.items c.args.at (c.args.at + 1 + 1) _ c.tested.ensures.shown c.spot.ensures r.spans (omega arith);
+      reads = leads (λ s. past_items (of_list is_set) none s) (isset_opens o.token p.token o.stands.is o.role_is p.stands.is p.role_is c.requires.ready.deep) r.reads;
       edge_is = refl;
       opened = omega arith;
       no_call = refl;

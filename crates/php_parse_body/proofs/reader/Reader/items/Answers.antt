@@ -2,7 +2,7 @@ use Rattle.std.proofs.Common.{◌∷◌}
 use Rattle.std.proofs.Common.{◌∙◌, refl, arith, ap, sym}
 use Rattle.std.proofs.lemmas.Result.{err_from_is_err_and}
 use Rattle.php_parse_body.proofs.Fails.{later}
-use Rattle.php_grammar.specs.expression.Sign.{closes}
+use Rattle.php_grammar.specs.expression.Role.{closes}
 use Rattle.php_ast.specs.expression.Tree.{none, and, skip, array}
 use Rattle.php_grammar.specs.expression.Machine.{holds, past_items, items_open, of_list, ended_items}
 use Rattle.php_parse_body.proofs.Moves.{leads, leads_halts}

@@ -2,8 +2,8 @@ use Rattle.std.proofs.Common.{◌∙◌, refl, arith, ap}
 use Rattle.std.proofs.lemmas.Result.{err_from_is_err_and}
 use Rattle.php_parse_body.proofs.Fails.{fewer}
 use Rattle.php_token.specs.Token.{token_at}
-use Rattle.php_grammar.specs.expression.Sign.{counts}
-use Rattle.php_ast.specs.expression.Tree.{counted}
+use Rattle.php_grammar.specs.expression.Role.{by_count}
+use Rattle.php_ast.specs.expression.Tree.{count}
 use Rattle.php_grammar.specs.expression.Machine.{holds, after, expects}
 use Rattle.php_parse_body.specs.Seen.{rest}
 use Rattle.php_grammar.proofs.expression.Trees.{open_by_ends}
@@ -36,9 +36,9 @@ returns-in_ok-counted-in-Some-Counts g c =
     let r = c.in_ok-left.ensures in
     let d = rw c.in-Some-Counts.field-0-is at (rw c.in-Some-Counts.is at c.change_at.ensures) in
     record {
-      form = counted r.form c.in-Some-Counts.count;
+      form = count r.form c.in-Some-Counts.count;
       spans = counted_spans c.args.tokens.now _ _ c.in-Some-Counts.count r.form c.args.at _ c.in_ok-counted-in-Some-Counts.ensures.shown r.spans;
-      reads = leads (λ s. after r.form s) (weaken (omega arith) r.reads) (leads (λ s. holds r.form s) (settle r.form _ (omega arith)) (draw d.token (counts c.in-Some-Counts.count) r.form d.stands.is d.role_is (omega arith) (omega (arith, r.opened)) c.requires.ready.deep));
+      reads = leads (λ s. after r.form s) (weaken (omega arith) r.reads) (leads (λ s. holds r.form s) (settle r.form _ (omega arith)) (draw d.token (by_count c.in-Some-Counts.count) r.form d.stands.is d.role_is (omega arith) (omega (arith, r.opened)) c.requires.ready.deep));
       edge_is = refl;
       rests = rests_same 50 _;
       bare = λ h. cc;

@@ -1,4 +1,0 @@
-use Rattle.php_print.proofs.printer.Printer.method_body.Goals as goal
-
-pub returns-in-Some : goal.returns-in-Some
-returns-in-Some c = rw c.in-Some.is (rw c.as_slice.ensures at c.braces.ensures)

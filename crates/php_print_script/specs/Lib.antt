@@ -1,0 +1,2 @@
+pub mod statement
+pub mod declaration
