@@ -85,3 +85,6 @@ pub data IsOwedByTokens (found : List whole.Token) (allowance : ℕ) (owed : Ans
 -- a file with no statements
 nothing_to_run : answer_of (run_of [] 0 0 []) ≡ record { kind = kind.Done; ticks = 0; output = []; error = [] }
 nothing_to_run = refl
+
+variable_limit : MOST_VARIABLES ≡ 65535
+variable_limit = refl
