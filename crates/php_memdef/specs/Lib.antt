@@ -17,3 +17,4 @@ pub mod Rest
 pub mod Conditions
 pub mod Operations
 pub mod Meanings
+pub mod ExamplesOfCalls
