@@ -15,4 +15,6 @@ pub mod Alike
 pub mod Laws
 pub mod Rest
 pub mod Conditions
+pub mod Operations
 pub mod Meanings
+pub mod ExamplesOfCalls

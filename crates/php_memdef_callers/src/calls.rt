@@ -1,7 +1,9 @@
 // The calls of the small memory.
 use crate::cells::{Held, OneBlock};
 use php_base::NoMemory;
-use php_memdef::{Base, Block, Fallen, Memory, Name, Peek, Place, Read, Wrote};
+use php_memdef::{
+    Base, Block, Fallen, Memory, Met, Name, NoObject, Obj, Peek, Place, PropName, Read, Wrote,
+};
 use php_value::{Key, Scalar};
 
 impl Memory for OneBlock {
@@ -34,6 +36,9 @@ impl Memory for OneBlock {
         self.push_held(Held::Array);
         Ok(())
     }
+
+    // There are no objects.
+    fn push_object(&mut self, _block: Block, _obj: Obj) {}
 
     fn copy(&mut self, _block: Block, from: &Place) -> Result<Read, NoMemory> {
         match self.held_copy(from)? {
@@ -79,7 +84,24 @@ impl Memory for OneBlock {
     // There is one block alone.
     fn pass(&mut self, _from: Block, _to: Block) {}
 
+    fn turn(&mut self, _block: Block, count: usize) {
+        self.turn_held(count);
+    }
+
+    fn reserve(&mut self, _block: Block, more: usize) -> Result<(), NoMemory> {
+        self.widen(more)?;
+        Ok(())
+    }
+
+    fn append(&mut self, _block: Block, _to: &Place) -> Result<(), NoMemory> {
+        Err(NoMemory)
+    }
+
     fn unset(&mut self, _block: Block, _at: &Place) -> Result<(), NoMemory> {
+        Err(NoMemory)
+    }
+
+    fn unset_last(&mut self, _block: Block, _at: &Place) -> Result<(), NoMemory> {
         Err(NoMemory)
     }
 
@@ -100,6 +122,20 @@ impl Memory for OneBlock {
         Fallen::Nothing
     }
 
+    fn object(&mut self, _block: Block, _class: u32, _finishing: bool) -> Result<Obj, NoObject> {
+        Err(NoObject::NoMemory)
+    }
+
+    fn clone_object(&mut self, _block: Block) -> Result<Obj, NoObject> {
+        Err(NoObject::NoMemory)
+    }
+
+    fn finish(&mut self, _obj: Obj) {}
+
+    fn spare(&mut self, _obj: Obj) {}
+
+    fn attach(&mut self, _obj: Obj, _frame: Option<Block>) {}
+
     fn peek(&self, at: &Place) -> Peek<'_> {
         match self.held(at) {
             None => Peek::Absent,
@@ -111,12 +147,45 @@ impl Memory for OneBlock {
         None
     }
 
+    fn entry_after_near(
+        &self,
+        _at: &Place,
+        _serial: u64,
+        _near: &mut usize,
+    ) -> Option<(u64, &Key)> {
+        None
+    }
+
+    // There are no elements.
+    fn meets(&self, at: &Place) -> Met<'_> {
+        Met {
+            steps: 0,
+            end: self.peek_base(&at.base),
+        }
+    }
+
+    fn is_link(&self, _block: Block, _depth: usize) -> bool {
+        false
+    }
+
     fn aliased(&self, _at: &Place) -> bool {
         false
     }
 
     fn temps(&self, _block: Block) -> usize {
         self.temps.len()
+    }
+
+    fn class_of(&self, _obj: Obj) -> u32 {
+        0
+    }
+
+    fn prop_at(&self, _obj: Obj, _place: usize) -> Option<&PropName> {
+        None
+    }
+
+    fn eldest(&self) -> Option<Obj> {
+        None
     }
 
     fn slots(&self) -> u64 {
