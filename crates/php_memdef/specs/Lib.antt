@@ -18,3 +18,4 @@ pub mod Conditions
 pub mod Operations
 pub mod Meanings
 pub mod ExamplesOfCalls
+pub mod Deciders

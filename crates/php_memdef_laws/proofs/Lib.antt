@@ -9,3 +9,5 @@ pub mod StopLemmas
 pub mod ReadLemmas
 pub mod FreshLemmas
 pub mod Shapes
+pub mod DeciderLemmas
+pub mod DecidedOperations

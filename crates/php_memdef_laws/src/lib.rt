@@ -17,6 +17,8 @@ ghost use Rattle.php_memdef_laws.specs.Stops.{StopsFor};
 ghost use Rattle.php_memdef.specs.Holders.{vslots};
 ghost use Rattle.php_memdef.specs.Views.{Shows, found, later_entry, is_aliased, is_link, steps_met, end_met, temps_count, cost_of};
 ghost use Rattle.php_memdef.specs.Conditions.{IsBlock, IsObject, IsPlace};
+ghost use Rattle.std.specs.Bool.{Decides};
+ghost use Rattle.php_memdef.specs.Deciders.{can};
 ghost use Rattle.php_memdef.specs.Operations.{Operation, Can, run, effect, cost};
 ghost use Rattle.php_memdef.specs.Laws.{AnswersAlike, HoldsAlike, KeepsClosed, KeepsFormed, KeepsHeld, KeepsSound, ShowsAlike};
 ghost use Rattle.php_memdef.specs.Objects as objects;
@@ -67,6 +69,11 @@ pub fn operations_keep_sound()
     ensures held { (o : Operation) →
         KeepsHeld (λ m. IsClosed m × (IsFormed m × Can o m)) (effect o) }
     ensures sound { (o : Operation) → KeepsSound (Can o) (effect o) }
+{}
+
+/// The test of each operation tells exactly when it may be made.
+pub fn conditions_are_decided()
+    ensures { (o : Operation) (m : Mem) → Decides (can o m) (Can o m) }
 {}
 
 /// What each operation that may be made makes of every block: whether it is there, its room, how many
