@@ -11,7 +11,7 @@ use Rattle.php_grammar.specs.expression.Depth.{depth, depth_at, depth_behind}
 use Rattle.php_grammar.specs.expression.Laws.{head_continuation}
 use Rattle.php_grammar.proofs.expression.Roles.{closer_symbol, MarkSays, item_says}
 use Rattle.php_parse_body.specs.Walk.{outcome_of, outcome, stepped, walk, Leads}
-use Rattle.php_parse_body.specs.Seen.{test, head_mark}
+use Rattle.php_reader.specs.Seen.{test, head_mark}
 use Rattle.php_parse_body.specs.ListAnswer.{is_found}
 
 -- ---- two states that do the same

@@ -11,14 +11,15 @@ use Rattle.php_grammar.specs.expression.Machine.{Form, expects}
 use Rattle.php_grammar.specs.expression.Laws.{Spells, BeginsExpression, IsSpelled}
 use Rattle.php_grammar.proofs.expression.Notes.{again}
 use Rattle.php_grammar.proofs.expression.LawProofs.{one_tree}
-use Rattle.php_parse_body.specs.declared.fail.Stop.{Stop}
-use Rattle.php_parse_body.specs.declared.fail.Stop.TheVariants.{Syntax, TooDeep, NoMemory}
-use Rattle.php_parse_body.specs.declared.fail.ParseFail.{ParseFail}
-use Rattle.php_parse_body.specs.declared.reader.Read.{Read}
+use Rattle.php_reader.specs.declared.fail.Stop.{Stop}
+use Rattle.php_reader.specs.declared.fail.Stop.TheVariants.{Syntax, TooDeep, NoMemory}
+use Rattle.php_reader.specs.declared.fail.ParseFail.{ParseFail}
+use Rattle.php_parse_body.specs.declared.read.Read.{Read}
 use Rattle.php_parse_body.specs.Walk.{walk, whole, short, deep}
-use Rattle.php_parse_body.specs.Seen.{rest}
+use Rattle.php_reader.specs.Seen.{rest}
 use Rattle.php_parse_body.specs.Answer.{Found, StopsAt, Fails}
-use Rattle.php_parse_body.specs.Exact.{between, symbols, Reaches, IsRead, IsSyntax, IsTooDeep, IsRefused, IsLined, line_at}
+use Rattle.php_parse_body.specs.Exact.{between, symbols, Reaches, IsRead, IsSyntax, IsTooDeep, IsRefused}
+use Rattle.php_reader.specs.Line.{IsLined, line_at}
 use Rattle.php_parse_body.proofs.Blanks.{blank}
 use Rattle.php_parse_body.proofs.Depths.{AllWithin, none_deep, first_deep}
 use Rattle.php_parse_body.proofs.Wholes.{cancel, over, ends_deep, whole_walk, short_walk, deep_walk}

@@ -4,8 +4,8 @@ use Rattle.php_token.specs.Token.{Token}
 use Rattle.php_ast.specs.Symbol.{Symbol}
 use Rattle.php_grammar.specs.expression.Machine.{OpenForm, OpenForms, State, expects, least_power_at}
 use Rattle.php_grammar.specs.expression.Depth.{deepened}
-use Rattle.php_parse_body.specs.declared.fail.Stop.{Stop}
-use Rattle.php_parse_body.specs.declared.fail.Stop.TheVariants.{Syntax, TooDeep, NoMemory}
+use Rattle.php_reader.specs.declared.fail.Stop.{Stop}
+use Rattle.php_reader.specs.declared.fail.Stop.TheVariants.{Syntax, TooDeep, NoMemory}
 use Rattle.php_parse_body.specs.Walk.{Leads}
 use Rattle.php_parse_body.specs.Answer.{Fails}
 use Rattle.php_parse_body.proofs.Moves.{leads_halts, inside_halts, weaken_halts}

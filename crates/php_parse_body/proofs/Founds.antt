@@ -10,10 +10,10 @@ use Rattle.php_grammar.specs.expression.Role.{Continuation, draws, continuation,
 use Rattle.php_ast.specs.expression.Proper.{operand_level}
 use Rattle.php_grammar.specs.expression.Machine.{OpenForms, State, expects, past_static, instance_of_open, least_power, prefix_open, past_yield, allowed_if, advance, start, static_step, started}
 use Rattle.php_grammar.specs.expression.Laws.{head_continuation}
-use Rattle.php_parse_body.specs.declared.fail.Stop.{Stop}
-use Rattle.php_parse_body.specs.declared.reader.Read.{Read}
+use Rattle.php_reader.specs.declared.fail.Stop.{Stop}
+use Rattle.php_parse_body.specs.declared.read.Read.{Read}
 use Rattle.php_parse_body.specs.Walk.{Leads, Halts, walk, short, deep}
-use Rattle.php_parse_body.specs.Seen.{head_beginning}
+use Rattle.php_reader.specs.Seen.{head_beginning}
 use Rattle.php_parse_body.specs.Answer.{Answers}
 use Rattle.php_parse_body.proofs.Moves.{leads, leads_halts, move, sticks, sinks}
 use Rattle.php_parse_body.proofs.Fails.{later}

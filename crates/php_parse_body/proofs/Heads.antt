@@ -6,21 +6,21 @@ use Rattle.php_ast.specs.declared.operator.Count.{Count}
 use Rattle.php_grammar.specs.expression.Role.{Continuation, draws, closes, neither, continuation, strength_of, draw_strength}
 use Rattle.php_grammar.specs.expression.Laws.{head_continuation}
 use Rattle.php_grammar.proofs.expression.Fill.{binary_bound}
-use Rattle.php_parse_body.specs.declared.sign.Next.{Next}
-use Rattle.php_parse_body.specs.declared.sign.Next.TheVariants as next
-use Rattle.php_parse_body.specs.declared.sign.Infix.{Infix}
-use Rattle.php_parse_body.specs.declared.sign.Infix.TheVariants as operator
-use Rattle.php_parse_body.specs.declared.sign.Tail.{Tail}
-use Rattle.php_parse_body.specs.declared.sign.Tail.TheVariants as tail
-use Rattle.php_parse_body.specs.SignView.{next_view, infix_view, tail_view}
+use Rattle.php_reader.specs.declared.sign.Next.{Next}
+use Rattle.php_reader.specs.declared.sign.Next.TheVariants as next
+use Rattle.php_reader.specs.declared.sign.Infix.{Infix}
+use Rattle.php_reader.specs.declared.sign.Infix.TheVariants as operator
+use Rattle.php_reader.specs.declared.sign.Tail.{Tail}
+use Rattle.php_reader.specs.declared.sign.Tail.TheVariants as tail
+use Rattle.php_reader.specs.SignView.{next_view, infix_view, tail_view}
 use Rattle.php_ast.specs.Symbol.{Symbol}
 use Rattle.php_grammar.specs.expression.Role.{Beginning, at_leaf, at_static, at_template, at_exit, at_new, at_yield, at_enclosed, at_listed, at_prefix, at_nothing, beginning}
-use Rattle.php_parse_body.specs.declared.sign.Opening.{Opening}
-use Rattle.php_parse_body.specs.declared.sign.Opening.TheVariants as opening
-use Rattle.php_parse_body.specs.declared.sign.Start.{Start}
-use Rattle.php_parse_body.specs.declared.sign.Start.TheVariants as start
-use Rattle.php_parse_body.specs.SignView.{opening_view, start_view}
-use Rattle.php_parse_body.specs.Seen.{Follows, Shows, Stands, Starts, rest}
+use Rattle.php_reader.specs.declared.sign.Opening.{Opening}
+use Rattle.php_reader.specs.declared.sign.Opening.TheVariants as opening
+use Rattle.php_reader.specs.declared.sign.Start.{Start}
+use Rattle.php_reader.specs.declared.sign.Start.TheVariants as start
+use Rattle.php_reader.specs.SignView.{opening_view, start_view}
+use Rattle.php_reader.specs.Seen.{Follows, Shows, Stands, Starts, rest}
 use Rattle.php_parse_body.specs.Walk.{Rests, head_strength}
 
 pub shows_head : (tokens : List Token) (at : ℕ) (x : Continuation) → Shows continuation tokens at x → head_continuation (rest tokens at) ≡ x

@@ -13,8 +13,8 @@ use Rattle.php_token.specs.Token.{Token}
 use Rattle.php_ast.specs.expression.Tree.{Tree, Setting}
 use Rattle.php_ast.specs.expression.View.{Note}
 use Rattle.php_ast.specs.expression.Placed.{size, setting_size, noted, notes_of}
-use Rattle.php_parse_body.specs.declared.fail.Stop.{Stop}
-use Rattle.php_parse_body.specs.declared.fail.Stop.TheVariants.{Syntax, TooDeep, NoMemory}
+use Rattle.php_reader.specs.declared.fail.Stop.{Stop}
+use Rattle.php_reader.specs.declared.fail.Stop.TheVariants.{Syntax, TooDeep, NoMemory}
 use Rattle.php_parse_body.specs.Answer.{Spans, Fails}
 use Rattle.php_ast.specs.expression.Nesting.{right_depth}
 use Rattle.php_ast.specs.Power.{binary_row}
@@ -27,7 +27,7 @@ use Rattle.php_grammar.specs.expression.Depth.{deepened, depth, depth_behind}
 use Rattle.php_grammar.specs.expression.Laws.{head_continuation}
 use Rattle.php_grammar.proofs.expression.Fill.{binary_bound}
 use Rattle.php_parse_body.specs.Walk.{Leads, Halts, Rests, head_strength, walk, short}
-use Rattle.php_parse_body.specs.Seen.{test, head_beginning, NoOperand}
+use Rattle.php_reader.specs.Seen.{test, head_beginning, NoOperand}
 use Rattle.php_parse_body.proofs.Moves.{leads, leads_halts, move, sticks, inside, finish, finish_instance, completed_ends, draw, call_halts, close, unclosed_halts}
 use Rattle.php_parse_body.proofs.Enters.{assign_enters, question_enters, yield_enters, yield_alone, static_ends}
 

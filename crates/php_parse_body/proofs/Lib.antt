@@ -1,9 +1,4 @@
 pub mod Moves
-pub mod Views
-pub mod Flats
-pub mod Runs
-mod FlatExamples
-pub mod Words
 pub mod Productions
 pub mod Enters
 pub mod Fails

@@ -18,15 +18,16 @@ use Rattle.php_grammar.specs.expression.Role.{Mark, refers, spreads, ends_item, 
 use Rattle.php_grammar.specs.expression.Machine.{Nothing, Form, of_list, is_plain, past_items, past_value, ended_items}
 use Rattle.php_grammar.specs.expression.Laws.{head_continuation}
 use Rattle.php_parse_body.specs.Walk.{Leads}
-use Rattle.php_parse_body.specs.Parts.{item_parts, argument_parts}
+use Rattle.php_build.specs.Parts.{item_parts, argument_parts}
 use Rattle.php_parse_body.specs.Answer.{Spans}
 use Rattle.php_parse_body.specs.ListAnswer.{AnswersKeyed, AnswersItem, SpansItems, closer_in, no_items}
 use Rattle.std.proofs.Common.{Result, Ok, Err}
-use Rattle.php_parse_body.specs.declared.fail.Stop.{Stop}
-use Rattle.php_parse_body.specs.declared.reader.Entry.{Entry}
-use Rattle.php_parse_body.specs.Seen.{rest}
+use Rattle.php_reader.specs.declared.reader.Reader.{Reader}
+use Rattle.php_reader.specs.declared.fail.Stop.{Stop}
+use Rattle.php_parse_body.specs.declared.read.Entry.{Entry}
+use Rattle.php_reader.specs.Seen.{rest}
 use Rattle.php_parse_body.proofs.Fails.{later}
-use Rattle.php_parse_body.proofs.Views.{argument_push, item_push, value_push}
+use Rattle.php_build.proofs.Views.{argument_push, item_push, value_push}
 use Rattle.php_parse_body.proofs.Moves.{leads}
 use Rattle.php_parse_body.proofs.Listings.{Shut}
 
@@ -96,13 +97,13 @@ word_size array_form.Brackets h = absurd (h refl)
 word_size _ h = refl
 
 -- an item with a key
-pub item_keyed : (array_of : ArrayForm) (room : ℕ) (tokens : List Token) (at place : ℕ) (k : Form) (key : Tree Note) (r : Result (Entry (Item Expr)) Stop) → Spans tokens key k at place → 1 ≤ room - 1 → at ≤ place
-    → ((items : Items Nothing) → Leads room 200 (λ s. past_items (of_list (array array_of)) items s) (rest tokens at) (λ s. past_value (of_list (array array_of)) items k s) (rest tokens (place + 1)))
-    → AnswersKeyed key room tokens (place + 1) r → AnswersItem array_of room tokens at r
-item_keyed array_of room tokens at place k key (Ok r) spans deep ahead reads found = record {
+pub item_keyed : (array_of : ArrayForm) (reader : Reader) (at place : ℕ) (k : Form) (key : Tree Note) (r : Result (Entry (Item Expr)) Stop) → Spans reader.tokens.now key k at place → 1 ≤ reader.room - 1 → at ≤ place
+    → ((items : Items Nothing) → Leads reader.room 200 (λ s. past_items (of_list (array array_of)) items s) (rest reader.tokens.now at) (λ s. past_value (of_list (array array_of)) items k s) (rest reader.tokens.now (place + 1)))
+    → AnswersKeyed key reader (place + 1) r → AnswersItem array_of reader at r
+item_keyed array_of reader at place k key (Ok r) spans deep ahead reads found = record {
   lead = found.lead k;
   form = found.form;
-  shown = λ xs. found.shown xs k at spans.shown ∙ ap (λ n. and xs (noted_lead (notes_of tokens) at (found.lead k)) (noted (notes_of tokens) n found.form)) (omega (arith, found.lead_sized k, spans.sized));
+  shown = λ xs. found.shown xs k at spans.shown ∙ ap (λ n. and xs (noted_lead (notes_of reader.tokens.now) at (found.lead k)) (noted (notes_of reader.tokens.now) n found.form)) (omega (arith, found.lead_sized k, spans.sized));
   sized = omega (arith, found.sized, found.lead_sized k, spans.sized);
   flat = found.flat;
   reads = λ items. leads (λ s. past_value (of_list (array array_of)) items k s) (reads items) (found.reads array_of items k);
@@ -112,8 +113,8 @@ item_keyed array_of room tokens at place k key (Ok r) spans deep ahead reads fou
   ahead = omega (arith, found.ahead);
   within = found.within;
 }
-item_keyed array_of room tokens at place k key (Err e) spans deep ahead reads fails =
-    λ items. later tokens at (place + 1) (λ s. past_value (of_list (array array_of)) items k s) e (omega arith) (reads items) (fails array_of items k)
+item_keyed array_of reader at place k key (Err e) spans deep ahead reads fails =
+    λ items. later reader.tokens.now at (place + 1) (λ s. past_value (of_list (array array_of)) items k s) e (omega arith) (reads items) (fails array_of items k)
 
 pub shut_array : (form : ArrayForm) (lead : Lead Nothing) (v : List Symbol) → head_continuation v ≢ closes role.comma → head_continuation v ≢ closes (closer_in form) → (is_plain lead ≡ true → head_continuation v ≢ closes role.double_arrow)
     → Shut (of_list (array form)) lead v

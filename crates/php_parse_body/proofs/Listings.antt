@@ -15,7 +15,7 @@ use Rattle.php_grammar.specs.expression.Role.{Mark, refers, spreads, ends_item, 
 use Rattle.php_grammar.specs.expression.Machine.{Nothing, Form, Holder, of_call, of_new, of_list, is_array, is_arguments, has_paren, may_end, is_plain, items_open, OpenForms, State, expects, holds, past_items, past_value, due_listed, closed, keys, closed_with, ended_items, after, item_step, allowed_if, pick, start, started}
 use Rattle.php_grammar.specs.expression.Laws.{head_continuation}
 use Rattle.php_parse_body.specs.Walk.{Leads, Halts, Rests, walk, short}
-use Rattle.php_parse_body.specs.Seen.{test, head_mark}
+use Rattle.php_reader.specs.Seen.{test, head_mark}
 use Rattle.php_parse_body.specs.ListAnswer.{closer_in}
 use Rattle.php_parse_body.proofs.Moves.{leads, leads_halts, move, sink, sticks, inside, close, unclosed_halts}
 use Rattle.php_parse_body.proofs.Enters.{items_enter}

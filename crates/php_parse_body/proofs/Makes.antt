@@ -19,11 +19,11 @@ use Rattle.php_grammar.specs.expression.Machine.{Nothing, Form, of_new, step_ope
 use Rattle.php_grammar.specs.expression.Laws.{head_continuation}
 use Rattle.php_grammar.proofs.expression.Fill.{least_power_most}
 use Rattle.php_parse_body.specs.Walk.{Leads, Halts, Rests, walk, short}
-use Rattle.php_parse_body.specs.Seen.{head_word, named_class, head_class, Mold, is_bytes, is_opened, is_over, is_other, mold, head_mold}
-use Rattle.php_parse_body.specs.Parts.{piece_parts, step_parts}
+use Rattle.php_reader.specs.Seen.{head_word, named_class, head_class, Mold, is_bytes, is_opened, is_over, is_other, mold, head_mold}
+use Rattle.php_build.specs.Parts.{piece_parts, step_parts}
 use Rattle.php_parse_body.specs.Answer.{Spans}
 use Rattle.php_parse_body.specs.ListAnswer.{SpansItems}
-use Rattle.php_parse_body.proofs.Views.{piece_push, step_push}
+use Rattle.php_build.proofs.Views.{piece_push, step_push}
 use Rattle.php_parse_body.proofs.Moves.{leads, leads_halts, move, sticks, behind_draw}
 use Rattle.php_parse_body.proofs.Productions.{between_reads, between_unclosed}
 

@@ -7,15 +7,15 @@ use Rattle.php_ast.specs.expression.View.{view}
 use Rattle.php_grammar.specs.expression.Role.{ends_yield}
 use Rattle.php_grammar.specs.expression.Laws.{head_continuation}
 use Rattle.php_grammar.specs.expression.Machine.{OpenForms, State, expects, holds, completed}
-use Rattle.php_parse_body.specs.declared.fail.Stop.{Stop}
-use Rattle.php_parse_body.specs.declared.reader.Read.{Read}
+use Rattle.php_reader.specs.declared.fail.Stop.{Stop}
+use Rattle.php_parse_body.specs.declared.read.Read.{Read}
 use Rattle.php_parse_body.specs.declared.pending.Between.{Between}
 use Rattle.php_parse_body.specs.declared.pending.Between.TheVariants as between
 use Rattle.php_parse_body.specs.declared.pending.Pending.{Pending}
 use Rattle.php_parse_body.specs.declared.pending.Onward.{Onward}
 use Rattle.php_parse_body.specs.declared.pending.Onward.TheVariants as onward
 use Rattle.php_parse_body.specs.BetweenView.{row_between}
-use Rattle.php_parse_body.specs.Seen.{rest}
+use Rattle.php_reader.specs.Seen.{rest}
 use Rattle.php_parse_body.specs.Walk.{Leads, Rests}
 use Rattle.php_parse_body.specs.Answer.{Fails, Found}
 use Rattle.php_parse_body.specs.Climb.{Completes, Waits, LeadsOn, Pends}

@@ -12,8 +12,8 @@ use Rattle.php_grammar.specs.expression.Machine.{Nothing, Form, OpenForm, enclos
 use Rattle.php_grammar.specs.expression.Depth.{depth, deepened, static_depth}
 use Rattle.php_grammar.specs.expression.Laws.{head_continuation}
 use Rattle.php_parse_body.specs.Walk.{Leads, Halts, Rests}
-use Rattle.php_parse_body.specs.declared.fail.Stop.{Stop}
-use Rattle.php_parse_body.specs.declared.fail.Stop.TheVariants.{Syntax, TooDeep, NoMemory}
+use Rattle.php_reader.specs.declared.fail.Stop.{Stop}
+use Rattle.php_reader.specs.declared.fail.Stop.TheVariants.{Syntax, TooDeep, NoMemory}
 use Rattle.php_parse_body.specs.Answer.{Spans, Fails}
 use Rattle.php_token.specs.declared.kind.Punct.TheVariants as mark
 use Rattle.php_grammar.specs.expression.Machine.{instance_of_open}
@@ -23,7 +23,7 @@ use Rattle.php_grammar.proofs.expression.Fill.{least_power_most}
 use Rattle.php_grammar.proofs.expression.Settle.{kept_power}
 use Rattle.php_grammar.proofs.expression.Roles.{paren_says, TestSays}
 use Rattle.php_parse_body.specs.Walk.{walk, short}
-use Rattle.php_parse_body.specs.Seen.{test, head_member}
+use Rattle.php_reader.specs.Seen.{test, head_member}
 use Rattle.php_parse_body.proofs.Enters.{exit_alone, exit_enters}
 use Rattle.php_parse_body.proofs.Moves.{sticks, sink, kept_all, leads, leads_halts, move, inside, inside_halts, unclosed_halts, close}
 

@@ -10,15 +10,15 @@ use Rattle.php_ast.specs.expression.View.{Note, with_suffix, with_suffixes}
 use Rattle.php_ast.specs.expression.Placed.{noted_items}
 use Rattle.php_grammar.specs.expression.Machine.{of_call, past_items, after_by}
 use Rattle.php_ast.specs.expression.Proper.{is_call}
-use Rattle.php_parse_body.specs.Parts.{suffix_parts}
-use Rattle.php_parse_body.proofs.Views.{suffix_push}
+use Rattle.php_build.specs.Parts.{suffix_parts}
+use Rattle.php_build.proofs.Views.{suffix_push}
 use Rattle.php_ast.specs.expression.Placed.{size, noted, noted_member, notes_of}
 use Rattle.php_grammar.specs.expression.Role as role
 use Rattle.php_grammar.specs.expression.Role.{closes, continuation, draws, by_select, by_index, is_left_brace, is_right_bracket, member_of}
 use Rattle.php_grammar.specs.expression.Machine.{Nothing, Form, index_open, computed_open, OpenForms, expects, holds, past_index, past_arrow, after, closed, with_member, pick, start}
 use Rattle.php_grammar.specs.expression.Laws.{head_continuation}
 use Rattle.php_parse_body.specs.Walk.{Leads, Halts, Rests, walk, short}
-use Rattle.php_parse_body.specs.Seen.{test, head_member}
+use Rattle.php_reader.specs.Seen.{test, head_member}
 use Rattle.php_parse_body.specs.Answer.{Spans}
 use Rattle.php_parse_body.specs.ListAnswer.{SpansItems}
 use Rattle.php_parse_body.proofs.Moves.{leads, leads_halts, move, sink, sticks, suffix}

@@ -1,6 +1,5 @@
 -- What the functions of the parser answer.
-use Rattle.std.specs.Prelude.{◌≡◌, ◌≢◌, ◌≤◌, ◌<◌, ℕ, ◌+◌, Bool, true, false, Option, Some, None, Result, Ok, Err, List, ◌∷◌, map, length}
-use Rattle.std.specs.declared.alloc.Global.{Global}
+use Rattle.std.specs.Prelude.{◌≡◌, ◌≢◌, ◌≤◌, ◌<◌, ℕ, ◌+◌, ◌-◌, Bool, true, false, Option, Some, None, Result, Ok, Err, List, ◌∷◌, map, length}
 use denote.Ref.{Bor}
 use Rattle.php_token.specs.Token.{Token}
 use Rattle.php_ast.specs.declared.expression.Expr.{Expr}
@@ -8,7 +7,7 @@ use Rattle.php_ast.specs.declared.expression.Suffix.{Suffix}
 use Rattle.php_ast.specs.Symbol.{Symbol}
 use Rattle.php_ast.specs.expression.Tree as tree
 use Rattle.php_ast.specs.expression.Tree.{Tree, array, is_set}
-use Rattle.php_ast.specs.expression.Proper.{ends, ends_bare, is_call}
+use Rattle.php_ast.specs.expression.Proper.{ends, ends_bare, free, is_call, top}
 use Rattle.php_ast.specs.expression.View as shown
 use Rattle.php_ast.specs.expression.View.{Note, view}
 use Rattle.php_ast.specs.expression.Placed.{size, noted, notes_of}
@@ -16,22 +15,23 @@ use Rattle.php_grammar.specs.expression.Role as role
 use Rattle.php_grammar.specs.expression.Role.{closes, continuation, draws, draw_strength, ends_yield}
 use Rattle.php_grammar.specs.expression.Laws.{head_continuation}
 use Rattle.php_grammar.specs.expression.Machine.{Form, OpenForms, State, expects, holds, after, yield_open}
-use Rattle.php_parse_body.specs.declared.fail.Stop.{Stop}
-use Rattle.php_parse_body.specs.declared.fail.Stop.TheVariants.{Syntax, TooDeep, NoMemory}
-use Rattle.php_parse_body.specs.declared.reader.Read.{Read}
-use Rattle.php_parse_body.specs.declared.reader.Taken.{Taken}
-use Rattle.php_parse_body.specs.declared.reader.Operand.{Operand}
-use Rattle.php_parse_body.specs.declared.reader.Followed.{Followed}
-use Rattle.php_parse_body.specs.Parts as part
-use Rattle.php_parse_body.specs.Flat.{are_flat_suffixes}
-use Rattle.php_parse_body.specs.declared.sign.Tail.{Tail}
-use Rattle.php_parse_body.specs.declared.sign.Opening.{Opening}
-use Rattle.php_parse_body.specs.declared.sign.Opening.TheVariants as opening
-use Rattle.php_parse_body.specs.SignView.{tail_view, infix_view}
+use Rattle.php_reader.specs.declared.reader.Reader.{Reader}
+use Rattle.php_reader.specs.declared.fail.Stop.{Stop}
+use Rattle.php_reader.specs.declared.fail.Stop.TheVariants.{Syntax, TooDeep, NoMemory}
+use Rattle.php_parse_body.specs.declared.read.Read.{Read}
+use Rattle.php_parse_body.specs.declared.read.Taken.{Taken}
+use Rattle.php_parse_body.specs.declared.read.Operand.{Operand}
+use Rattle.php_parse_body.specs.declared.read.Followed.{Followed}
+use Rattle.php_build.specs.Parts as part
+use Rattle.php_build.specs.Flat.{are_flat_suffixes}
+use Rattle.php_reader.specs.declared.sign.Tail.{Tail}
+use Rattle.php_reader.specs.declared.sign.Opening.{Opening}
+use Rattle.php_reader.specs.declared.sign.Opening.TheVariants as opening
+use Rattle.php_reader.specs.SignView.{tail_view, infix_view}
 use Rattle.php_parse_body.specs.declared.prefixes.Change.{Change}
 use Rattle.php_parse_body.specs.declared.prefixes.Change.TheVariants as change
-use Rattle.php_parse_body.specs.declared.sign.Infix.{Infix}
-use Rattle.php_parse_body.specs.Seen.{rest, Shows}
+use Rattle.php_reader.specs.declared.sign.Infix.{Infix}
+use Rattle.php_reader.specs.Seen.{rest, Shows}
 use Rattle.php_parse_body.specs.Walk.{Leads, Halts, Rests}
 
 -- ---- failures
@@ -73,22 +73,19 @@ Answers room level least from w tokens start at (Ok r) = Found room level least 
 Answers room level least from w tokens start at (Err e) = Fails room level from w tokens at e
 
 -- the expression that begins at a place
-abbrev pub AnswersHere : ℕ → ℕ → ℕ → List Token → ℕ → Result Read Stop → Type 0
-AnswersHere room level least tokens at r = Answers room level least (λ s. expects s) (rest tokens at) tokens at at r
+abbrev pub AnswersHere : Reader → ℕ → ℕ → ℕ → Result Read Stop → Type 0
+AnswersHere reader level least at r = Answers reader.room level least (λ s. expects s) (rest reader.tokens.now at) reader.tokens.now at at r
+
+-- likewise, one level deeper
+abbrev pub AnswersInside : Reader → ℕ → ℕ → Result Read Stop → Type 0
+AnswersInside reader level at r = Answers (reader.room - 1) level level (λ s. expects s) (rest reader.tokens.now at) reader.tokens.now at at r
 
 -- ---- the parser as a value
 
--- A function value that reads expressions with less than so many levels of nesting left.
-pub record Nests (bound : ℕ) (pre : Global → Bor (List Token) → ℕ → ℕ → ℕ → Type 0) (post : Global → Bor (List Token) → ℕ → ℕ → ℕ → Result Read Stop → Type 0) : Type 0 where
-  pub callable : (alloc : Global) (ts : Bor (List Token)) (at level room : ℕ) → at ≤ length ts.now → 1 ≤ level → level ≤ 50 → room ≤ 129 → room < bound → pre alloc ts at level room
-  pub reads : (alloc : Global) (ts : Bor (List Token)) (at level room : ℕ) (r : Result Read Stop) → post alloc ts at level room r → AnswersHere room level level ts.now at r
-
--- One that reads what is one level deeper.
-pub record Ready (bound room : ℕ) (pre : Global → Bor (List Token) → ℕ → ℕ → ℕ → Type 0) (post : Global → Bor (List Token) → ℕ → ℕ → ℕ → Result Read Stop → Type 0) : Type 0 where
-  pub nests : Nests bound pre post
-  pub below : room ≤ bound
-  pub deep : 1 ≤ room
-  pub shallow : room ≤ 129
+-- What reads expressions with less than so many levels of nesting left.
+pub record Nests (bound : ℕ) (allows : Bor Reader → ℕ → ℕ → Type 0) (gives : Bor Reader → ℕ → ℕ → Result Read Stop → Type 0) : Type 0 where
+  pub callable : (reader : Bor Reader) (at least : ℕ) → at ≤ length reader.now.tokens.now → 1 ≤ least → least ≤ free → reader.now.room < bound → allows reader at least
+  pub reads : (reader : Bor Reader) (at least : ℕ) (r : Result Read Stop) → gives reader at least r → AnswersHere reader.now least least at r
 
 -- ---- operands
 
@@ -103,9 +100,9 @@ pub record FoundLeaf (room : ℕ) (tokens : List Token) (at : ℕ) (r : Taken) :
   pub ahead : at < r.next
   pub within : r.next ≤ length tokens
 
-abbrev pub AnswersLeaf : ℕ → List Token → ℕ → Result Taken Stop → Type 0
-AnswersLeaf room tokens at (Ok r) = FoundLeaf room tokens at r
-AnswersLeaf room tokens at (Err e) = Fails room 200 (λ s. expects s) (rest tokens at) tokens at e
+abbrev pub AnswersLeaf : Reader → ℕ → Result Taken Stop → Type 0
+AnswersLeaf reader at (Ok r) = FoundLeaf reader.room reader.tokens.now at r
+AnswersLeaf reader at (Err e) = Fails reader.room 200 (λ s. expects s) (rest reader.tokens.now at) reader.tokens.now at e
 
 -- with its suffixes
 pub record FoundOperand (room : ℕ) (tokens : List Token) (at : ℕ) (r : Operand) : Type 0 where
@@ -120,9 +117,9 @@ pub record FoundOperand (room : ℕ) (tokens : List Token) (at : ℕ) (r : Opera
   pub ahead : at < r.next
   pub within : r.next ≤ length tokens
 
-abbrev pub AnswersOperand : ℕ → List Token → ℕ → Result Operand Stop → Type 0
-AnswersOperand room tokens at (Ok r) = FoundOperand room tokens at r
-AnswersOperand room tokens at (Err e) = Fails room 200 (λ s. expects s) (rest tokens at) tokens at e
+abbrev pub AnswersOperand : Reader → ℕ → Result Operand Stop → Type 0
+AnswersOperand reader at (Ok r) = FoundOperand reader.room reader.tokens.now at r
+AnswersOperand reader at (Err e) = Fails reader.room 200 (λ s. expects s) (rest reader.tokens.now at) reader.tokens.now at e
 
 -- whether a suffix follows that what stands before is open to
 abbrev pub SeesTail : List Token → ℕ → ℕ → Option Tail → Type 0
@@ -139,26 +136,29 @@ pub record FoundSuffix (room : ℕ) (f : Form) (tokens : List Token) (start at :
   pub ahead : at < r.next
   pub within : r.next ≤ length tokens
 
-abbrev pub AnswersSuffix : ℕ → Form → List Token → ℕ → ℕ → Result Followed Stop → Type 0
-AnswersSuffix room f tokens start at (Ok r) = FoundSuffix room f tokens start at r
-AnswersSuffix room f tokens start at (Err e) = Fails room 200 (λ s. after f s) (rest tokens at) tokens at e
+abbrev pub AnswersSuffix : Reader → Form → ℕ → ℕ → Result Followed Stop → Type 0
+AnswersSuffix reader f start at (Ok r) = FoundSuffix reader.room f reader.tokens.now start at r
+AnswersSuffix reader f start at (Err e) = Fails reader.room 200 (λ s. after f s) (rest reader.tokens.now at) reader.tokens.now at e
 
 -- ---- what stands behind an expression, in all open forms in which that expression may stand
 
 -- an assignment to an operand
-abbrev pub AnswersAssigned : Operand → ℕ → List Token → Result Read Stop → Type 0
-AnswersAssigned left room tokens r =
-    (f : Form) (start : ℕ) → Spans tokens (view left.expr) f start left.next → 50 < ends f → Answers room 50 50 (λ s. holds f s) (rest tokens left.next) tokens start left.next r
+abbrev pub AnswersAssigned : Operand → Reader → Result Read Stop → Type 0
+AnswersAssigned left reader r =
+    (f : Form) (start : ℕ) → Spans reader.tokens.now (view left.expr) f start left.next → free < ends f
+    → Answers reader.room free free (λ s. holds f s) (rest reader.tokens.now left.next) reader.tokens.now start left.next r
 
 -- the value behind the key of a `yield` that stands at a place
-abbrev pub AnswersYield : Read → ℕ → List Token → ℕ → Result Read Stop → Type 0
-AnswersYield key room tokens at r =
-    (k : Form) → Spans tokens (view key.expr) k (at + 1) key.next → Answers room 50 50 (λ s. holds k (yield_open ∷ s)) (rest tokens key.next) tokens at key.next r
+abbrev pub AnswersYield : Read → Reader → ℕ → Result Read Stop → Type 0
+AnswersYield key reader at r =
+    (k : Form) → Spans reader.tokens.now (view key.expr) k (at + 1) key.next
+    → Answers reader.room free free (λ s. holds k (yield_open ∷ s)) (rest reader.tokens.now key.next) reader.tokens.now at key.next r
 
 -- an operator and its right side
-abbrev pub AnswersBehind : Read → ℕ → ℕ → List Token → Result Read Stop → Type 0
-AnswersBehind left level room tokens r =
-    (f : Form) (start : ℕ) → Spans tokens (view left.expr) f start left.next → ends f ≡ left.edge → Answers room level 50 (λ s. holds f s) (rest tokens left.next) tokens start left.next r
+abbrev pub AnswersBehind : Read → ℕ → Reader → Result Read Stop → Type 0
+AnswersBehind left level reader r =
+    (f : Form) (start : ℕ) → Spans reader.tokens.now (view left.expr) f start left.next → ends f ≡ left.edge
+    → Answers reader.room level free (λ s. holds f s) (rest reader.tokens.now left.next) reader.tokens.now start left.next r
 
 -- whether `static` stands alone
 abbrev pub SeesStatic : List Token → ℕ → Opening → Bool → Type 0

@@ -6,7 +6,7 @@ use Rattle.php_ast.specs.Power.{Row, binary_row, choice_row}
 use Rattle.php_ast.specs.expression.View.{Note, view}
 use Rattle.php_parse_body.specs.declared.pending.Between.{Between}
 use Rattle.php_parse_body.specs.declared.pending.Between.TheVariants as between
-use Rattle.php_parse_body.specs.Flat.{is_flat}
+use Rattle.php_build.specs.Flat.{is_flat}
 
 abbrev pub row_between : Between → Row
 row_between (between.Joins op) = binary_row op

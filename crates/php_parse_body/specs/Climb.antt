@@ -8,13 +8,14 @@ use Rattle.php_ast.specs.expression.Proper.{edge, ends, ends_bare, right}
 use Rattle.php_ast.specs.expression.View.{Note, view}
 use Rattle.php_grammar.specs.expression.Machine.{Form, OpenForm, OpenForms, State, expects, holds, then_open, least_power_at, ends_at, completed}
 use Rattle.php_grammar.specs.expression.Depth.{deepened}
-use Rattle.php_parse_body.specs.declared.fail.Stop.{Stop}
-use Rattle.php_parse_body.specs.declared.reader.Read.{Read}
+use Rattle.php_reader.specs.declared.reader.Reader.{Reader}
+use Rattle.php_reader.specs.declared.fail.Stop.{Stop}
+use Rattle.php_parse_body.specs.declared.read.Read.{Read}
 use Rattle.php_parse_body.specs.declared.pending.Pending.{Pending}
 use Rattle.php_parse_body.specs.declared.pending.Onward.{Onward}
 use Rattle.php_parse_body.specs.declared.pending.Onward.TheVariants as onward
 use Rattle.php_parse_body.specs.BetweenView.{row_between, closed_view}
-use Rattle.php_parse_body.specs.Seen.{rest}
+use Rattle.php_reader.specs.Seen.{rest}
 use Rattle.php_parse_body.specs.Walk.{Leads}
 use Rattle.php_parse_body.specs.Answer.{Spans, Fails, Found}
 
@@ -44,15 +45,16 @@ LeadsOn room level from w tokens start at (Ok (onward.Behind r)) = Found room le
 LeadsOn room level from w tokens start at (Ok (onward.Inside p next)) = Waits room level from w tokens start p next × (at < next)
 LeadsOn room level from w tokens start at (Err e) = Fails room level from w tokens at e
 
-abbrev pub AnswersOnward : Read → ℕ → ℕ → List Token → Result Onward Stop → Type 0
-AnswersOnward left level room tokens r =
-    (f : Form) (start : ℕ) → Spans tokens (view left.expr) f start left.next → ends f ≡ left.edge → LeadsOn room level (λ s. holds f s) (rest tokens left.next) tokens start left.next r
+abbrev pub AnswersOnward : Read → ℕ → Reader → Result Onward Stop → Type 0
+AnswersOnward left level reader r =
+    (f : Form) (start : ℕ) → Spans reader.tokens.now (view left.expr) f start left.next → ends f ≡ left.edge
+    → LeadsOn reader.room level (λ s. holds f s) (rest reader.tokens.now left.next) reader.tokens.now start left.next r
 
 -- likewise behind the middle of a `? :`
-abbrev pub AnswersHalf : Read → Read → ℕ → ℕ → List Token → Result Onward Stop → Type 0
-AnswersHalf left middle level room tokens r =
-    (f m : Form) (start : ℕ) → Spans tokens (view left.expr) f start left.next → Spans tokens (view middle.expr) m (left.next + 1) middle.next
-    → LeadsOn room level (λ s. holds m (then_open f ∷ s)) (rest tokens middle.next) tokens start middle.next r
+abbrev pub AnswersHalf : Read → Read → ℕ → Reader → Result Onward Stop → Type 0
+AnswersHalf left middle level reader r =
+    (f m : Form) (start : ℕ) → Spans reader.tokens.now (view left.expr) f start left.next → Spans reader.tokens.now (view middle.expr) m (left.next + 1) middle.next
+    → LeadsOn reader.room level (λ s. holds m (then_open f ∷ s)) (rest reader.tokens.now middle.next) reader.tokens.now start middle.next r
 
 -- From `at` on an operator was read, and more from where its right side begins.
 pub record Inside (room level : ℕ) (tokens : List Token) (at : ℕ) (p : Pending) (More : ℕ → Type 0) : Type 0 where

@@ -1,6 +1,6 @@
 -- What is answered of the expression that begins at a place.
-use Rattle.std.specs.Prelude.{◌≡◌, ◌≤◌, ◌<◌, ℕ, ◌+◌, ◌-◌, true, nat_lt, if◌then◌else◌, Some, None, List, [], ◌++◌, map, take, drop, length}
-use Rattle.php_token.specs.Token.{Token, token_at}
+use Rattle.std.specs.Prelude.{◌≡◌, ◌≤◌, ◌<◌, ℕ, ◌+◌, ◌-◌, true, Some, None, List, [], ◌++◌, map, take, drop, length}
+use Rattle.php_token.specs.Token.{Token}
 use Rattle.php_ast.specs.declared.expression.Expr.{Expr}
 use Rattle.php_ast.specs.Symbol.{Symbol, symbol}
 use Rattle.php_ast.specs.expression.Tree.{Tree}
@@ -12,11 +12,10 @@ use Rattle.php_grammar.specs.TooDeep.{first_too_deep}
 use Rattle.php_grammar.specs.expression.Role.{ends_yield}
 use Rattle.php_grammar.specs.expression.Machine.{Form}
 use Rattle.php_grammar.specs.expression.Laws.{Spells, BeginsExpression, IsSpelled, head_continuation}
-use Rattle.php_parse_body.specs.declared.fail.ParseFail.{ParseFail}
-use Rattle.php_parse_body.specs.declared.fail.ParseFail.TheVariants.{Syntax, TooDeep, NoMemory}
-use Rattle.php_parse_body.specs.declared.fail.Stop.{Stop}
-use Rattle.php_parse_body.specs.declared.fail.Stop.TheVariants as stop
-use Rattle.php_parse_body.specs.Seen.{rest}
+use Rattle.php_reader.specs.declared.fail.ParseFail.{ParseFail}
+use Rattle.php_reader.specs.declared.fail.ParseFail.TheVariants.{Syntax, TooDeep, NoMemory}
+use Rattle.php_reader.specs.Seen.{rest}
+use Rattle.php_reader.specs.Line.{line_at}
 
 -- ---- the tokens from one place to before another
 
@@ -36,13 +35,6 @@ pub record Reaches (tokens : List Token) (at k : ℕ) : Type 0 where
 -- A `yield` alone at the end of a tree stands before what may follow it.
 abbrev pub MayStand : Form → List Token → ℕ → Type 0
 MayStand e tokens k = ends_bare e ≡ true → ends_yield (head_continuation (rest tokens k)) ≡ true
-
--- ---- lines
-
--- of the token at a place, and behind the last token its line, or 1 where there is no token
-abbrev pub line_at : List Token → ℕ → ℕ
-line_at [] k = 1
-line_at tokens k = if nat_lt k (length tokens) then (token_at tokens k).line else (token_at tokens (length tokens - 1)).line
 
 -- ---- answers
 
@@ -75,9 +67,3 @@ abbrev pub IsRefused : ℕ → List Token → ℕ → ParseFail → Type 0
 IsRefused depth tokens at (Syntax k line) = IsSyntax depth tokens at k line
 IsRefused depth tokens at (TooDeep k line) = IsTooDeep depth tokens at k line
 IsRefused depth tokens at NoMemory = Unit {0}
-
--- the same failure, with its line
-abbrev pub IsLined : List Token → Stop → ParseFail → Type 0
-IsLined tokens (stop.Syntax k) fail = fail ≡ Syntax k (line_at tokens k)
-IsLined tokens (stop.TooDeep k) fail = fail ≡ TooDeep k (line_at tokens k)
-IsLined tokens stop.NoMemory fail = fail ≡ NoMemory

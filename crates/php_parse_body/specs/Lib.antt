@@ -1,10 +1,6 @@
-pub mod SignView
 pub mod Walk
-pub mod Seen
 pub mod Answer
 pub mod ListAnswer
-pub mod Parts
-pub mod Flat
 pub mod Exact
 pub mod BetweenView
 pub mod Climb

@@ -17,16 +17,17 @@ use Rattle.php_grammar.specs.expression.Role as role
 use Rattle.php_grammar.specs.expression.Role.{closes, continuation, draws, draw_strength, ends_yield}
 use Rattle.php_grammar.specs.expression.Laws.{head_continuation}
 use Rattle.php_grammar.specs.expression.Machine.{Nothing, Form, Holder, of_list, is_arguments, is_plain, items_open, closed_with, OpenForms, State, holds, past_items, past_value, past_new, past_class, past_template, after}
-use Rattle.php_parse_body.specs.declared.fail.Stop.{Stop}
-use Rattle.php_parse_body.specs.declared.reader.Listed.{Listed}
-use Rattle.php_parse_body.specs.declared.reader.Entry.{Entry}
-use Rattle.php_parse_body.specs.Parts as part
-use Rattle.php_parse_body.specs.Flat.{are_flat, is_flat_piece, are_flat_pieces, is_flat_item, are_flat_items, is_flat_argument, are_flat_arguments, is_flat_step, are_flat_steps, is_flat_class}
+use Rattle.php_reader.specs.declared.reader.Reader.{Reader}
+use Rattle.php_reader.specs.declared.fail.Stop.{Stop}
+use Rattle.php_parse_body.specs.declared.read.Listed.{Listed}
+use Rattle.php_parse_body.specs.declared.read.Entry.{Entry}
+use Rattle.php_build.specs.Parts as part
+use Rattle.php_build.specs.Flat.{are_flat, is_flat_piece, are_flat_pieces, is_flat_item, are_flat_items, is_flat_argument, are_flat_arguments, is_flat_step, are_flat_steps, is_flat_class}
 use Rattle.php_ast.specs.declared.expression.ClassStep.{ClassStep}
 use Rattle.php_ast.specs.declared.expression.Piece.{Piece}
 use Rattle.php_parse_body.specs.declared.classes.StepKind.{StepKind}
 use Rattle.php_parse_body.specs.declared.classes.StepKind.TheVariants as step_kind
-use Rattle.php_parse_body.specs.Seen.{rest, Shows}
+use Rattle.php_reader.specs.Seen.{rest, Shows}
 use Rattle.php_parse_body.specs.Walk.{Leads, Rests}
 use Rattle.php_parse_body.specs.Answer.{Fails}
 
@@ -50,9 +51,9 @@ pub record FoundArguments (room : ℕ) (tokens : List Token) (at : ℕ) (r : Lis
   pub ahead : at < r.next
   pub within : r.next ≤ length tokens
 
-abbrev pub AnswersArguments : ℕ → List Token → ℕ → Result (Listed (Argument Expr)) Stop → Type 0
-AnswersArguments room tokens at (Ok r) = FoundArguments room tokens at r
-AnswersArguments room tokens at (Err e) = (h : Holder) → is_arguments h ≡ true → Fails room 200 (λ s. past_items h tree.none s) (rest tokens at) tokens at e
+abbrev pub AnswersArguments : Reader → ℕ → Result (Listed (Argument Expr)) Stop → Type 0
+AnswersArguments reader at (Ok r) = FoundArguments reader.room reader.tokens.now at r
+AnswersArguments reader at (Err e) = (h : Holder) → is_arguments h ≡ true → Fails reader.room 200 (λ s. past_items h tree.none s) (rest reader.tokens.now at) reader.tokens.now at e
 
 pub record FoundItems (form : ArrayForm) (room : ℕ) (tokens : List Token) (at : ℕ) (r : Listed (Item Expr)) : Type 0 where
   pub items : tree.Items Nothing
@@ -62,9 +63,9 @@ pub record FoundItems (form : ArrayForm) (room : ℕ) (tokens : List Token) (at 
   pub ahead : at < r.next
   pub within : r.next ≤ length tokens
 
-abbrev pub AnswersItems : ArrayForm → ℕ → List Token → ℕ → Result (Listed (Item Expr)) Stop → Type 0
-AnswersItems form room tokens at (Ok r) = FoundItems form room tokens at r
-AnswersItems form room tokens at (Err e) = Fails room 200 (λ s. past_items (of_list (array form)) tree.none s) (rest tokens at) tokens at e
+abbrev pub AnswersItems : ArrayForm → Reader → ℕ → Result (Listed (Item Expr)) Stop → Type 0
+AnswersItems form reader at (Ok r) = FoundItems form reader.room reader.tokens.now at r
+AnswersItems form reader at (Err e) = Fails reader.room 200 (λ s. past_items (of_list (array form)) tree.none s) (rest reader.tokens.now at) reader.tokens.now at e
 
 pub record FoundValues (room : ℕ) (tokens : List Token) (at : ℕ) (r : Listed Expr) : Type 0 where
   pub items : tree.Items Nothing
@@ -74,9 +75,9 @@ pub record FoundValues (room : ℕ) (tokens : List Token) (at : ℕ) (r : Listed
   pub ahead : at < r.next
   pub within : r.next ≤ length tokens
 
-abbrev pub AnswersValues : ℕ → List Token → ℕ → Result (Listed Expr) Stop → Type 0
-AnswersValues room tokens at (Ok r) = FoundValues room tokens at r
-AnswersValues room tokens at (Err e) = Fails room 200 (λ s. past_items (of_list is_set) tree.none s) (rest tokens at) tokens at e
+abbrev pub AnswersValues : Reader → ℕ → Result (Listed Expr) Stop → Type 0
+AnswersValues reader at (Ok r) = FoundValues reader.room reader.tokens.now at r
+AnswersValues reader at (Err e) = Fails reader.room 200 (λ s. past_items (of_list is_set) tree.none s) (rest reader.tokens.now at) reader.tokens.now at e
 
 -- an item of a list, before the comma or the closing token behind it
 pub record FoundItem (array_of : ArrayForm) (room : ℕ) (tokens : List Token) (at : ℕ) (r : Entry (Item Expr)) : Type 0 where
@@ -108,13 +109,13 @@ pub record FoundKeyed (key : Tree Note) (room : ℕ) (tokens : List Token) (at :
   pub ahead : at < r.next
   pub within : r.next ≤ length tokens
 
-abbrev pub AnswersItem : ArrayForm → ℕ → List Token → ℕ → Result (Entry (Item Expr)) Stop → Type 0
-AnswersItem form room tokens at (Ok r) = FoundItem form room tokens at r
-AnswersItem form room tokens at (Err e) = (items : tree.Items Nothing) → Fails room 200 (λ s. past_items (of_list (array form)) items s) (rest tokens at) tokens at e
+abbrev pub AnswersItem : ArrayForm → Reader → ℕ → Result (Entry (Item Expr)) Stop → Type 0
+AnswersItem form reader at (Ok r) = FoundItem form reader.room reader.tokens.now at r
+AnswersItem form reader at (Err e) = (items : tree.Items Nothing) → Fails reader.room 200 (λ s. past_items (of_list (array form)) items s) (rest reader.tokens.now at) reader.tokens.now at e
 
-abbrev pub AnswersKeyed : Tree Note → ℕ → List Token → ℕ → Result (Entry (Item Expr)) Stop → Type 0
-AnswersKeyed key room tokens at (Ok r) = FoundKeyed key room tokens at r
-AnswersKeyed key room tokens at (Err e) = (form : ArrayForm) (items : tree.Items Nothing) (k : Form) → Fails room 200 (λ s. past_value (of_list (array form)) items k s) (rest tokens at) tokens at e
+abbrev pub AnswersKeyed : Tree Note → Reader → ℕ → Result (Entry (Item Expr)) Stop → Type 0
+AnswersKeyed key reader at (Ok r) = FoundKeyed key reader.room reader.tokens.now at r
+AnswersKeyed key reader at (Err e) = (form : ArrayForm) (items : tree.Items Nothing) (k : Form) → Fails reader.room 200 (λ s. past_value (of_list (array form)) items k s) (rest reader.tokens.now at) reader.tokens.now at e
 
 -- an argument, before the comma or the parenthesis behind it
 pub record FoundArgument (room : ℕ) (tokens : List Token) (at : ℕ) (r : Entry (Argument Expr)) : Type 0 where
@@ -129,9 +130,9 @@ pub record FoundArgument (room : ℕ) (tokens : List Token) (at : ℕ) (r : Entr
   pub ahead : at < r.next
   pub within : r.next ≤ length tokens
 
-abbrev pub AnswersArgument : ℕ → List Token → ℕ → Result (Entry (Argument Expr)) Stop → Type 0
-AnswersArgument room tokens at (Ok r) = FoundArgument room tokens at r
-AnswersArgument room tokens at (Err e) = (h : Holder) (items : tree.Items Nothing) → is_arguments h ≡ true → Fails room 200 (λ s. past_items h items s) (rest tokens at) tokens at e
+abbrev pub AnswersArgument : Reader → ℕ → Result (Entry (Argument Expr)) Stop → Type 0
+AnswersArgument reader at (Ok r) = FoundArgument reader.room reader.tokens.now at r
+AnswersArgument reader at (Err e) = (h : Holder) (items : tree.Items Nothing) → is_arguments h ≡ true → Fails reader.room 200 (λ s. past_items h items s) (rest reader.tokens.now at) reader.tokens.now at e
 
 -- ---- classes behind `new`
 
@@ -146,9 +147,9 @@ pub record FoundStep (room : ℕ) (tokens : List Token) (at : ℕ) (r : Entry (C
   pub ahead : at < r.next
   pub within : r.next ≤ length tokens
 
-abbrev pub AnswersStep : ℕ → List Token → ℕ → Result (Entry (ClassStep Expr)) Stop → Type 0
-AnswersStep room tokens at (Ok r) = FoundStep room tokens at r
-AnswersStep room tokens at (Err e) = (steps : tree.Steps Nothing) → Fails room 200 (λ s. past_class (tree.class_found steps) s) (rest tokens at) tokens at e
+abbrev pub AnswersStep : Reader → ℕ → Result (Entry (ClassStep Expr)) Stop → Type 0
+AnswersStep reader at (Ok r) = FoundStep reader.room reader.tokens.now at r
+AnswersStep reader at (Err e) = (steps : tree.Steps Nothing) → Fails reader.room 200 (λ s. past_class (tree.class_found steps) s) (rest reader.tokens.now at) reader.tokens.now at e
 
 abbrev pub is_found : tree.Class Nothing → Bool
 is_found (tree.class_found steps) = true
@@ -166,9 +167,9 @@ pub record FoundClass (from : OpenForms → State) (room : ℕ) (tokens : List T
   pub ahead : at < r.next
   pub within : r.next ≤ length tokens
 
-abbrev pub AnswersClass : ℕ → List Token → ℕ → Result (Entry (Class Expr)) Stop → Type 0
-AnswersClass room tokens at (Ok r) = FoundClass (λ s. past_new s) room tokens at r
-AnswersClass room tokens at (Err e) = Fails room 200 (λ s. past_new s) (rest tokens at) tokens at e
+abbrev pub AnswersClass : Reader → ℕ → Result (Entry (Class Expr)) Stop → Type 0
+AnswersClass reader at (Ok r) = FoundClass (λ s. past_new s) reader.room reader.tokens.now at r
+AnswersClass reader at (Err e) = Fails reader.room 200 (λ s. past_new s) (rest reader.tokens.now at) reader.tokens.now at e
 
 -- ---- texts with parts
 
@@ -181,9 +182,9 @@ pub record FoundPart (room : ℕ) (tokens : List Token) (at : ℕ) (r : Entry (P
   pub ahead : at < r.next
   pub within : r.next ≤ length tokens
 
-abbrev pub AnswersPart : ℕ → List Token → ℕ → Result (Entry (Piece Expr)) Stop → Type 0
-AnswersPart room tokens at (Ok r) = FoundPart room tokens at r
-AnswersPart room tokens at (Err e) = (pieces : tree.Pieces Nothing) → Fails room 200 (λ s. past_template pieces s) (rest tokens at) tokens at e
+abbrev pub AnswersPart : Reader → ℕ → Result (Entry (Piece Expr)) Stop → Type 0
+AnswersPart reader at (Ok r) = FoundPart reader.room reader.tokens.now at r
+AnswersPart reader at (Err e) = (pieces : tree.Pieces Nothing) → Fails reader.room 200 (λ s. past_template pieces s) (rest reader.tokens.now at) reader.tokens.now at e
 
 pub record FoundPieces (room : ℕ) (tokens : List Token) (at : ℕ) (r : Listed (Piece Expr)) : Type 0 where
   pub pieces : tree.Pieces Nothing
@@ -194,9 +195,9 @@ pub record FoundPieces (room : ℕ) (tokens : List Token) (at : ℕ) (r : Listed
   pub ahead : at < r.next
   pub within : r.next ≤ length tokens
 
-abbrev pub AnswersPieces : ℕ → List Token → ℕ → Result (Listed (Piece Expr)) Stop → Type 0
-AnswersPieces room tokens at (Ok r) = FoundPieces room tokens at r
-AnswersPieces room tokens at (Err e) = Fails room 200 (λ s. past_template tree.no_piece s) (rest tokens at) tokens at e
+abbrev pub AnswersPieces : Reader → ℕ → Result (Listed (Piece Expr)) Stop → Type 0
+AnswersPieces reader at (Ok r) = FoundPieces reader.room reader.tokens.now at r
+AnswersPieces reader at (Err e) = Fails reader.room 200 (λ s. past_template tree.no_piece s) (rest reader.tokens.now at) reader.tokens.now at e
 
 -- ---- what loops have read so far
 

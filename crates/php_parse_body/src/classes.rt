@@ -5,17 +5,20 @@ ghost use Rattle.php_ast.specs.expression.Tree.{thin, class_found, from};
 ghost use Rattle.php_grammar.specs.expression.Role as role;
 ghost use Rattle.php_grammar.specs.expression.Role.{beginning, continuation, draws};
 ghost use Rattle.php_token.specs.Token.{token_at};
-ghost use Rattle.php_parse_body.specs.Answer.{AnswersLeaf, Ready};
+ghost use Rattle.php_parse_body.specs.Answer.{AnswersLeaf};
 ghost use Rattle.php_parse_body.specs.ListAnswer.{AnswersClass, AnswersStep, SeesArguments, SeesStep};
-ghost use Rattle.php_parse_body.specs.Seen.{SeesClass, Shows, named_class};
+ghost use Rattle.php_reader.specs.Seen.{SeesClass, Shows, named_class};
 
-use crate::build::{made, made_with};
-use crate::fail::Stop;
-use crate::look::{class_at, ends_with, name_at, next_at, spot, word_at};
-use crate::reader::{Entry, Read, Reader, Taken};
-use crate::sign::{ClassKind, Closer, Next, Tail};
+use crate::inner::ReadsInner;
+use crate::parser::Parser;
+use crate::read::{Entry, Read, Taken};
 use php_ast::{Class, ClassStep, Expr};
+use php_build::build::{made, made_with};
 use php_lex::Tokens;
+use php_reader::Stop;
+use php_reader::limit::{LEAST_POWER, OPEN_NEW};
+use php_reader::look::{class_at, ends_with, name_at, next_at, spot, word_at};
+use php_reader::sign::{ClassKind, Closer, Next, Tail};
 use sqlite_items::Items;
 use std::alloc::Global;
 
@@ -46,39 +49,33 @@ fn sees_arguments(tokens: &Tokens, at: usize) -> bool
     matches!(next_at(tokens, at), Next::Suffix(Tail::Applies))
 }
 
-/// `-> name`, a step to the name of a class.
-fn property_step(alloc: Global, tokens: &Tokens, at: usize) -> Result<Entry<ClassStep<Expr>>, Stop>
-    requires here { Shows continuation tokens.now at (draws (role.by_select thin)) }
-    ensures { (room : ℕ) → 1 ≤ room → AnswersStep room tokens.now at result }
-{
-    let place = at + 1;
-    let Some(word) = word_at(alloc, tokens, place)? else {
-        return Err(Stop::Syntax(place));
-    };
-    Ok(Entry {
-        item: ClassStep::Property(word),
-        next: place + 1,
-    })
-}
+impl<'t, R: ReadsInner> Parser<'t, R> {
+    /// `-> name`, a step to the name of a class.
+    fn property_step(&self, at: usize) -> Result<Entry<ClassStep<Expr>>, Stop>
+        requires here { Shows continuation self.now.reader.tokens.now at (draws (role.by_select thin)) }
+        ensures { AnswersStep self.now.reader at result }
+    {
+        let place = at + 1;
+        let Some(word) = word_at(self.reader.alloc, self.reader.tokens, place)? else {
+            return Err(Stop::Syntax(place));
+        };
+        Ok(Entry {
+            item: ClassStep::Property(word),
+            next: place + 1,
+        })
+    }
 
-impl<F: Fn(Global, &Tokens, usize, u8, usize) -> Result<Read, Stop>> Reader<F> {
     /// `[key]`, a step to the name of a class.
-    fn index_step(
-        &self,
-        tokens: &Tokens,
-        at: usize,
-        room: usize,
-    ) -> Result<Entry<ClassStep<Expr>>, Stop>
-        requires ready { Ready self.now.bound room (F.pre self.now.expr) (F.post self.now.expr) }
-        requires here { Shows continuation tokens.now at (draws role.by_index) }
-        ensures { AnswersStep room tokens.now at result }
+    fn index_step(&self, at: usize) -> Result<Entry<ClassStep<Expr>>, Stop>
+        requires here { Shows continuation self.now.reader.tokens.now at (draws role.by_index) }
+        ensures { AnswersStep self.now.reader at result }
     {
         let Read {
             expr,
             edge: _,
             next,
-        } = self.deeper(tokens, at + 1, 1, room)?;
-        if !ends_with(tokens, next, Closer::Bracket) {
+        } = self.deeper(at + 1, LEAST_POWER)?;
+        if !ends_with(self.reader.tokens, next, Closer::Bracket) {
             return Err(Stop::Syntax(next));
         }
         Ok(Entry {
@@ -88,39 +85,26 @@ impl<F: Fn(Global, &Tokens, usize, u8, usize) -> Result<Read, Stop>> Reader<F> {
     }
 
     /// A step to the name of a class.
-    fn step(
-        &self,
-        tokens: &Tokens,
-        at: usize,
-        kind: StepKind,
-        room: usize,
-    ) -> Result<Entry<ClassStep<Expr>>, Stop>
-        requires ready { Ready self.now.bound room (F.pre self.now.expr) (F.post self.now.expr) }
-        requires here { SeesStep tokens.now at (Some kind) }
-        ensures { AnswersStep room tokens.now at result }
+    fn step(&self, at: usize, kind: StepKind) -> Result<Entry<ClassStep<Expr>>, Stop>
+        requires here { SeesStep self.now.reader.tokens.now at (Some kind) }
+        ensures { AnswersStep self.now.reader at result }
     {
         match kind {
-            StepKind::Property => property_step(self.alloc, tokens, at),
-            StepKind::Index => self.index_step(tokens, at, room),
+            StepKind::Property => self.property_step(at),
+            StepKind::Index => self.index_step(at),
         }
     }
 
     /// A variable and its steps to the name of a class.
-    fn found_class(
-        &self,
-        tokens: &Tokens,
-        at: usize,
-        room: usize,
-    ) -> Result<Entry<Class<Expr>>, Stop>
-        requires ready { Ready self.now.bound room (F.pre self.now.expr) (F.post self.now.expr) }
-        requires here { Shows named_class tokens.now at (Some (class_found (from tt (token_at tokens.now at).text))) }
-        ensures { AnswersClass room tokens.now at result }
+    fn found_class(&self, at: usize) -> Result<Entry<Class<Expr>>, Stop>
+        requires here { Shows named_class self.now.reader.tokens.now at (Some (class_found (from tt (token_at self.now.reader.tokens.now at).text))) }
+        ensures { AnswersClass self.now.reader at result }
     {
-        let name = name_at(self.alloc, tokens, at)?;
-        let mut steps = Items::new(self.alloc);
+        let name = name_at(self.reader.alloc, self.reader.tokens, at)?;
+        let mut steps = Items::new(self.reader.alloc);
         let mut next = at + 1;
-        while let Some(kind) = step_at(tokens, next) {
-            let step = self.step(tokens, next, kind, room)?;
+        while let Some(kind) = step_at(self.reader.tokens, next) {
+            let step = self.step(next, kind)?;
             steps.push(step.item)?;
             next = step.next;
         }
@@ -131,44 +115,47 @@ impl<F: Fn(Global, &Tokens, usize, u8, usize) -> Result<Read, Stop>> Reader<F> {
     }
 
     /// The class behind `new`.
-    fn class(&self, tokens: &Tokens, at: usize, room: usize) -> Result<Entry<Class<Expr>>, Stop>
-        requires ready { Ready self.now.bound room (F.pre self.now.expr) (F.post self.now.expr) }
-        requires within { at ≤ length tokens.now }
-        ensures { AnswersClass room tokens.now at result }
+    fn class(&self, at: usize) -> Result<Entry<Class<Expr>>, Stop>
+        requires within { at ≤ length self.now.reader.tokens.now }
+        ensures { AnswersClass self.now.reader at result }
     {
-        match class_at(tokens, at) {
+        match class_at(self.reader.tokens, at) {
             None => Err(Stop::Syntax(at)),
             Some(ClassKind::Name) => Ok(Entry {
-                item: Class::Name(name_at(self.alloc, tokens, at)?),
+                item: Class::Name(name_at(self.reader.alloc, self.reader.tokens, at)?),
                 next: at + 1,
             }),
             Some(ClassKind::Static) => Ok(Entry {
-                item: Class::Static(spot(tokens, at)),
+                item: Class::Static(spot(self.reader.tokens, at)),
                 next: at + 1,
             }),
-            Some(ClassKind::Variable) => self.found_class(tokens, at, room),
+            Some(ClassKind::Variable) => self.found_class(at),
         }
     }
 
     /// `new`, its class, and its arguments or none.
-    pub(crate) fn new_object(&self, tokens: &Tokens, at: usize, room: usize) -> Result<Taken, Stop>
-        requires ready { Ready self.now.bound room (F.pre self.now.expr) (F.post self.now.expr) }
-        requires here { Shows beginning tokens.now at role.at_new }
-        ensures { AnswersLeaf room tokens.now at result }
+    pub(crate) fn new_object(&self, at: usize) -> Result<Taken, Stop>
+        requires here { Shows beginning self.now.reader.tokens.now at role.at_new }
+        ensures { AnswersLeaf self.now.reader at result }
     {
-        let class = self.class(tokens, at + 1, room)?;
-        if !sees_arguments(tokens, class.next) {
+        let class = self.class(at + 1)?;
+        if !sees_arguments(self.reader.tokens, class.next) {
             return Ok(Taken {
                 next: class.next,
-                expr: made(self.alloc, spot(tokens, at), class.item)?,
-                edge: 80,
+                expr: made(self.reader.alloc, spot(self.reader.tokens, at), class.item)?,
+                edge: OPEN_NEW,
             });
         }
-        let arguments = self.arguments(tokens, class.next + 1, room)?;
+        let arguments = self.arguments(class.next + 1)?;
         Ok(Taken {
             next: arguments.next,
-            expr: made_with(self.alloc, spot(tokens, at), class.item, arguments.items)?,
-            edge: 80,
+            expr: made_with(
+                self.reader.alloc,
+                spot(self.reader.tokens, at),
+                class.item,
+                arguments.items,
+            )?,
+            edge: OPEN_NEW,
         })
     }
 }

@@ -1,16 +1,18 @@
 // Whole expressions: what stands first, and the operators behind it.
 
 ghost use Rattle.std.specs.Prelude.{◌≡◌, ◌≤◌, ◌<◌, ◌+◌, ◌-◌, ℕ, length};
-ghost use Rattle.php_parse_body.specs.Answer.{AnswersHere, AnswersNone, Ready, SeesInfix};
+ghost use Rattle.php_ast.specs.expression.Proper.{free};
+ghost use Rattle.php_parse_body.specs.Answer.{AnswersHere, AnswersNone, Nests, SeesInfix};
 
-use crate::fail::Stop;
-use crate::look::{next_at, start_at};
+use crate::inner::{Calls, Inner, ReadsInner};
+use crate::parser::Parser;
 use crate::pending::Onward;
-use crate::reader::{Read, Reader};
-use crate::sign::{Infix, Next, Start, infix_strength};
+use crate::read::Read;
 use php_lex::Tokens;
+use php_reader::look::{next_at, start_at};
+use php_reader::sign::{Infix, Next, Start, infix_strength};
+use php_reader::{Reader, Stop};
 use sqlite_items::Items;
-use std::alloc::Global;
 
 /// The operator at a place that goes on with an expression which is open to what draws less than `edge`, among
 /// operators of a power of at least `level`.
@@ -31,7 +33,7 @@ fn operator_at(tokens: &Tokens, at: usize, level: u8, edge: u8) -> Option<Infix>
 /// Where no level of nesting is left, the first token of an expression is nested too deep.
 fn sunk(tokens: &Tokens, at: usize) -> Stop
     requires { at ≤ length tokens.now }
-    ensures { (level : ℕ) → level ≤ 50 → AnswersNone level tokens.now at result }
+    ensures { (level : ℕ) → level ≤ free → AnswersNone level tokens.now at result }
 {
     match start_at(tokens, at) {
         Start::Nothing => Stop::Syntax(at),
@@ -39,33 +41,32 @@ fn sunk(tokens: &Tokens, at: usize) -> Stop
     }
 }
 
-impl<F: Fn(Global, &Tokens, usize, u8, usize) -> Result<Read, Stop>> Reader<F> {
+impl<'t, R: ReadsInner> Parser<'t, R> {
     /// The expression that begins at a place, of operators of a power of at least `level`. An operator whose right side
     /// is as deep as itself waits in a list while that is read.
-    fn climb(&self, tokens: &Tokens, at: usize, level: u8, room: usize) -> Result<Read, Stop>
-        requires ready { Ready self.now.bound room (F.pre self.now.expr) (F.post self.now.expr) }
-        requires within { at ≤ length tokens.now }
+    fn climb(&self, at: usize, level: u8) -> Result<Read, Stop>
+        requires within { at ≤ length self.now.reader.tokens.now }
         requires some { 1 ≤ level }
-        requires small { level ≤ 50 }
-        ensures { AnswersHere room level level tokens.now at result }
+        requires small { level ≤ free }
+        ensures { AnswersHere self.now.reader level level at result }
     {
-        let mut pending = Items::new(self.alloc);
+        let mut pending = Items::new(self.reader.alloc);
         let mut inner = level;
-        let mut read = self.first(tokens, at, room)?;
+        let mut read = self.first(at)?;
         loop {
-            match operator_at(tokens, read.next, inner, read.edge) {
-                Some(op) => match self.link(tokens, read, op, inner, room)? {
+            match operator_at(self.reader.tokens, read.next, inner, read.edge) {
+                Some(op) => match self.link(read, op, inner)? {
                     Onward::Behind(longer) => read = longer,
                     Onward::Inside(outer, next) => {
                         inner = outer.right();
                         pending.push(outer)?;
-                        read = self.first(tokens, next, room)?;
+                        read = self.first(next)?;
                     }
                 },
                 None => match pending.pop() {
                     Some(outer) => {
                         inner = outer.level;
-                        read = outer.completed(self.alloc, read)?;
+                        read = outer.completed(self.reader.alloc, read)?;
                     }
                     None => return Ok(read),
                 },
@@ -74,28 +75,38 @@ impl<F: Fn(Global, &Tokens, usize, u8, usize) -> Result<Read, Stop>> Reader<F> {
     }
 }
 
-/// The expression that begins at a place, of operators of a power of at least `level`, with so many levels of
-/// nesting left. It hands itself on, to read the expressions inside.
-pub(crate) fn expr(
-    alloc: Global,
-    tokens: &Tokens,
+/// The expression that begins at a place, of operators of a power of at least `least`; the ones inside are read by `inner`.
+fn outer<R: ReadsInner + Drop>(
+    reader: &Reader,
     at: usize,
-    level: u8,
-    room: usize,
+    least: u8,
+    inner: R,
 ) -> Result<Read, Stop>
-    requires within { at ≤ length tokens.now }
-    requires some { 1 ≤ level }
-    requires small { level ≤ 50 }
-    requires shallow { room ≤ 129 }
-    ensures { AnswersHere room level level tokens.now at result }
+    requires within { at ≤ length reader.now.tokens.now }
+    requires some { 1 ≤ least }
+    requires small { least ≤ free }
+    requires deep { 1 ≤ reader.now.room }
+    requires ready { Nests reader.now.room (R.allows inner) (R.gives inner) }
+    ensures { AnswersHere reader.entry.now least least at result }
 {
-    if room == 0 {
-        return Err(sunk(tokens, at));
+    Parser {
+        reader: *reader,
+        inner: Inner::new(reader.room, inner),
     }
-    Reader {
-        alloc,
-        bound: room,
-        expr,
+    .climb(at, least)
+}
+
+/// The expression that begins at a place, of operators of a power of at least `least`, with the levels of nesting that
+/// the reader has: what stands there is read among any open forms in which so many levels are left, and that go on with
+/// every operator of such a power. It hands itself on, to read the expressions inside.
+pub fn read_expression(reader: &Reader, at: usize, least: u8) -> Result<Read, Stop>
+    requires within { at ≤ length reader.now.tokens.now }
+    requires some { 1 ≤ least }
+    requires small { least ≤ free }
+    ensures { AnswersHere reader.entry.now least least at result }
+{
+    if reader.room == 0 {
+        return Err(sunk(reader.tokens, at));
     }
-    .climb(tokens, at, level, room)
+    outer(reader, at, least, Calls(read_expression))
 }

@@ -1,21 +1,21 @@
 // Reads the expressions of a script from its tokens.
 #![tactic(auto)]
 
-mod build;
 mod classes;
 mod expression;
-mod fail;
+mod inner;
 mod lists;
-mod look;
 mod operands;
 mod operators;
 mod parse;
+mod parser;
 mod pending;
 mod prefixes;
-mod reader;
-mod sign;
+mod read;
 mod suffixes;
 mod templates;
 
-pub use fail::ParseFail;
+pub use expression::read_expression;
 pub use parse::parse_expr;
+pub use php_reader::ParseFail;
+pub use read::Read;

@@ -8,19 +8,22 @@ ghost use Rattle.php_grammar.specs.expression.Role as role;
 ghost use Rattle.php_grammar.specs.expression.Role.{beginning, closes, draws};
 ghost use Rattle.php_grammar.specs.expression.Laws.{head_continuation};
 ghost use Rattle.php_ast.specs.expression.View.{view};
-ghost use Rattle.php_parse_body.specs.Answer.{AnswersLeaf, Ready};
+ghost use Rattle.php_parse_body.specs.Answer.{AnswersLeaf};
 ghost use Rattle.php_parse_body.specs.ListAnswer.{AnswersArgument, AnswersArguments, AnswersItem, AnswersItems, AnswersKeyed, AnswersValues, closer_in};
-ghost use Rattle.php_parse_body.specs.Flat.{is_flat};
-ghost use Rattle.php_parse_body.specs.Seen.{Shows, rest};
-ghost use Rattle.php_parse_body.specs.SignView.{closer_view};
+ghost use Rattle.php_build.specs.Flat.{is_flat};
+ghost use Rattle.php_reader.specs.Seen.{Shows, rest};
+ghost use Rattle.php_reader.specs.SignView.{closer_view};
 
-use crate::build::{listed, tested};
-use crate::fail::Stop;
-use crate::look::{ends_with, sees_ampersand, sees_paren, sees_reference, sees_spread, spot};
-use crate::reader::{Entry, Listed, Read, Reader, Taken};
-use crate::sign::Closer;
+use crate::inner::ReadsInner;
+use crate::parser::Parser;
+use crate::read::{Entry, Listed, Read, Taken};
 use php_ast::{Argument, ArrayForm, Expr, Item};
+use php_build::build::{listed, tested};
 use php_lex::Tokens;
+use php_reader::Stop;
+use php_reader::limit::{LEAST_POWER, TOP};
+use php_reader::look::{ends_with, sees_ampersand, sees_paren, sees_reference, sees_spread, spot};
+use php_reader::sign::Closer;
 use sqlite_items::Items;
 use std::alloc::{AllocError, Global};
 
@@ -47,28 +50,22 @@ fn ended(items: Items<Item<Expr>>) -> Result<Items<Item<Expr>>, AllocError>
     Ok(items)
 }
 
-impl<F: Fn(Global, &Tokens, usize, u8, usize) -> Result<Read, Stop>> Reader<F> {
+impl<'t, R: ReadsInner> Parser<'t, R> {
     /// An argument.
-    fn argument(
-        &self,
-        tokens: &Tokens,
-        at: usize,
-        room: usize,
-    ) -> Result<Entry<Argument<Expr>>, Stop>
-        requires ready { Ready self.now.bound room (F.pre self.now.expr) (F.post self.now.expr) }
-        requires within { at ≤ length tokens.now }
-        requires no_end { head_continuation (rest tokens.now at) ≢ closes role.paren }
-        ensures { AnswersArgument room tokens.now at result }
+    fn argument(&self, at: usize) -> Result<Entry<Argument<Expr>>, Stop>
+        requires within { at ≤ length self.now.reader.tokens.now }
+        requires no_end { head_continuation (rest self.now.reader.tokens.now at) ≢ closes role.paren }
+        ensures { AnswersArgument self.now.reader at result }
     {
-        if sees_spread(tokens, at) {
-            if room == 1 {
+        if sees_spread(self.reader.tokens, at) {
+            if self.reader.room == 1 {
                 return Err(Stop::TooDeep(at));
             }
             let Read {
                 expr,
                 edge: _,
                 next,
-            } = self.deeper(tokens, at + 1, 1, room)?;
+            } = self.deeper(at + 1, LEAST_POWER)?;
             return Ok(Entry {
                 item: Argument::Spread(expr),
                 next,
@@ -78,7 +75,7 @@ impl<F: Fn(Global, &Tokens, usize, u8, usize) -> Result<Read, Stop>> Reader<F> {
             expr,
             edge: _,
             next,
-        } = self.deeper(tokens, at, 1, room)?;
+        } = self.deeper(at, LEAST_POWER)?;
         Ok(Entry {
             item: Argument::Value(expr),
             next,
@@ -86,80 +83,67 @@ impl<F: Fn(Global, &Tokens, usize, u8, usize) -> Result<Read, Stop>> Reader<F> {
     }
 
     /// One argument or more, and the parenthesis behind them.
-    fn some_arguments(
-        &self,
-        tokens: &Tokens,
-        at: usize,
-        room: usize,
-    ) -> Result<Listed<Argument<Expr>>, Stop>
-        requires ready { Ready self.now.bound room (F.pre self.now.expr) (F.post self.now.expr) }
-        requires within { at ≤ length tokens.now }
-        requires no_end { head_continuation (rest tokens.now at) ≢ closes role.paren }
-        ensures { AnswersArguments room tokens.now at result }
+    fn some_arguments(&self, at: usize) -> Result<Listed<Argument<Expr>>, Stop>
+        requires within { at ≤ length self.now.reader.tokens.now }
+        requires no_end { head_continuation (rest self.now.reader.tokens.now at) ≢ closes role.paren }
+        ensures { AnswersArguments self.now.reader at result }
     {
-        let mut items = Items::new(self.alloc);
+        let mut items = Items::new(self.reader.alloc);
         let mut next = at;
         loop {
-            let entry = self.argument(tokens, next, room)?;
+            let entry = self.argument(next)?;
             items.push(entry.item)?;
-            if ends_with(tokens, entry.next, Closer::Paren) {
+            if ends_with(self.reader.tokens, entry.next, Closer::Paren) {
                 return Ok(Listed {
                     items,
                     next: entry.next + 1,
                 });
             }
-            if !ends_with(tokens, entry.next, Closer::Comma) {
+            if !ends_with(self.reader.tokens, entry.next, Closer::Comma) {
                 return Err(Stop::Syntax(entry.next));
             }
             next = entry.next + 1;
             // No argument begins with it, and none is read before this is known.
-            if ends_with(tokens, next, Closer::Paren) {
+            if ends_with(self.reader.tokens, next, Closer::Paren) {
                 return Err(Stop::Syntax(next));
             }
         }
     }
 
     /// Arguments and the parenthesis behind them.
-    pub(crate) fn arguments(
-        &self,
-        tokens: &Tokens,
-        at: usize,
-        room: usize,
-    ) -> Result<Listed<Argument<Expr>>, Stop>
-        requires ready { Ready self.now.bound room (F.pre self.now.expr) (F.post self.now.expr) }
-        requires within { at ≤ length tokens.now }
-        ensures { AnswersArguments room tokens.now at result }
+    pub(crate) fn arguments(&self, at: usize) -> Result<Listed<Argument<Expr>>, Stop>
+        requires within { at ≤ length self.now.reader.tokens.now }
+        ensures { AnswersArguments self.now.reader at result }
     {
-        if !ends_with(tokens, at, Closer::Paren) {
-            return self.some_arguments(tokens, at, room);
+        if !ends_with(self.reader.tokens, at, Closer::Paren) {
+            return self.some_arguments(at);
         }
-        if room == 1 {
+        if self.reader.room == 1 {
             return Err(Stop::TooDeep(at));
         }
         Ok(Listed {
-            items: Items::new(self.alloc),
+            items: Items::new(self.reader.alloc),
             next: at + 1,
         })
     }
 
     /// The values of `isset`, and the parenthesis behind them.
-    fn values(&self, tokens: &Tokens, at: usize, room: usize) -> Result<Listed<Expr>, Stop>
-        requires ready { Ready self.now.bound room (F.pre self.now.expr) (F.post self.now.expr) }
-        requires within { at ≤ length tokens.now }
-        ensures { AnswersValues room tokens.now at result }
+    fn values(&self, at: usize) -> Result<Listed<Expr>, Stop>
+        requires within { at ≤ length self.now.reader.tokens.now }
+        ensures { AnswersValues self.now.reader at result }
     {
-        let mut items = Items::new(self.alloc);
+        let mut items = Items::new(self.reader.alloc);
         let mut next = at;
         loop {
-            let value = self.deeper(tokens, next, 1, room)?;
+            let value = self.deeper(next, LEAST_POWER)?;
             items.push(value.expr)?;
-            if ends_with(tokens, value.next, Closer::Paren) {
+            if ends_with(self.reader.tokens, value.next, Closer::Paren) {
                 return Ok(Listed {
                     items,
                     next: value.next + 1,
                 });
             }
-            if !ends_with(tokens, value.next, Closer::Comma) {
+            if !ends_with(self.reader.tokens, value.next, Closer::Comma) {
                 return Err(Stop::Syntax(value.next));
             }
             next = value.next + 1;
@@ -167,43 +151,35 @@ impl<F: Fn(Global, &Tokens, usize, u8, usize) -> Result<Read, Stop>> Reader<F> {
     }
 
     /// `isset(..)`
-    pub(crate) fn isset(&self, tokens: &Tokens, at: usize, room: usize) -> Result<Taken, Stop>
-        requires ready { Ready self.now.bound room (F.pre self.now.expr) (F.post self.now.expr) }
-        requires here { Shows beginning tokens.now at (role.at_listed tree.is_set) }
-        ensures { AnswersLeaf room tokens.now at result }
+    pub(crate) fn isset(&self, at: usize) -> Result<Taken, Stop>
+        requires here { Shows beginning self.now.reader.tokens.now at (role.at_listed tree.is_set) }
+        ensures { AnswersLeaf self.now.reader at result }
     {
         let paren = at + 1;
-        if !sees_paren(tokens, paren) {
+        if !sees_paren(self.reader.tokens, paren) {
             return Err(Stop::Syntax(paren));
         }
-        let values = self.values(tokens, paren + 1, room)?;
+        let values = self.values(paren + 1)?;
         Ok(Taken {
             next: values.next,
-            expr: tested(spot(tokens, at), values.items),
-            edge: 200,
+            expr: tested(spot(self.reader.tokens, at), values.items),
+            edge: TOP,
         })
     }
 
     /// An item with a key, from behind its `=>`.
-    fn keyed(
-        &self,
-        tokens: &Tokens,
-        at: usize,
-        key: Expr,
-        room: usize,
-    ) -> Result<Entry<Item<Expr>>, Stop>
-        requires ready { Ready self.now.bound room (F.pre self.now.expr) (F.post self.now.expr) }
-        requires within { at ≤ length tokens.now }
-        requires deep { 2 ≤ room }
+    fn keyed(&self, at: usize, key: Expr) -> Result<Entry<Item<Expr>>, Stop>
+        requires within { at ≤ length self.now.reader.tokens.now }
+        requires deep { 2 ≤ self.now.reader.room }
         requires flat { is_flat key ≡ true }
-        ensures { AnswersKeyed (view key) room tokens.now at result }
+        ensures { AnswersKeyed (view key) self.now.reader at result }
     {
-        if sees_ampersand(tokens, at) {
+        if sees_ampersand(self.reader.tokens, at) {
             let Read {
                 expr,
                 edge: _,
                 next,
-            } = self.deeper(tokens, at + 1, 1, room)?;
+            } = self.deeper(at + 1, LEAST_POWER)?;
             return Ok(Entry {
                 item: Item::KeyedReference(key, expr),
                 next,
@@ -213,7 +189,7 @@ impl<F: Fn(Global, &Tokens, usize, u8, usize) -> Result<Read, Stop>> Reader<F> {
             expr,
             edge: _,
             next,
-        } = self.deeper(tokens, at, 1, room)?;
+        } = self.deeper(at, LEAST_POWER)?;
         Ok(Entry {
             item: Item::Keyed(key, expr),
             next,
@@ -221,28 +197,21 @@ impl<F: Fn(Global, &Tokens, usize, u8, usize) -> Result<Read, Stop>> Reader<F> {
     }
 
     /// An item that is not missing.
-    fn item(
-        &self,
-        tokens: &Tokens,
-        at: usize,
-        form: ArrayForm,
-        room: usize,
-    ) -> Result<Entry<Item<Expr>>, Stop>
-        requires ready { Ready self.now.bound room (F.pre self.now.expr) (F.post self.now.expr) }
-        requires within { at ≤ length tokens.now }
-        requires no_comma { head_continuation (rest tokens.now at) ≢ closes role.comma }
-        requires no_end { head_continuation (rest tokens.now at) ≢ closes (closer_in form) }
-        ensures { AnswersItem form room tokens.now at result }
+    fn item(&self, at: usize, form: ArrayForm) -> Result<Entry<Item<Expr>>, Stop>
+        requires within { at ≤ length self.now.reader.tokens.now }
+        requires no_comma { head_continuation (rest self.now.reader.tokens.now at) ≢ closes role.comma }
+        requires no_end { head_continuation (rest self.now.reader.tokens.now at) ≢ closes (closer_in form) }
+        ensures { AnswersItem form self.now.reader at result }
     {
-        if sees_reference(tokens, at) {
-            if room == 1 {
+        if sees_reference(self.reader.tokens, at) {
+            if self.reader.room == 1 {
                 return Err(Stop::TooDeep(at));
             }
             let Read {
                 expr,
                 edge: _,
                 next,
-            } = self.deeper(tokens, at + 1, 1, room)?;
+            } = self.deeper(at + 1, LEAST_POWER)?;
             return Ok(Entry {
                 item: Item::Reference(expr),
                 next,
@@ -252,9 +221,9 @@ impl<F: Fn(Global, &Tokens, usize, u8, usize) -> Result<Read, Stop>> Reader<F> {
             expr,
             edge: _,
             next,
-        } = self.deeper(tokens, at, 1, room)?;
-        if ends_with(tokens, next, Closer::DoubleArrow) {
-            return self.keyed(tokens, next + 1, expr, room);
+        } = self.deeper(at, LEAST_POWER)?;
+        if ends_with(self.reader.tokens, next, Closer::DoubleArrow) {
+            return self.keyed(next + 1, expr);
         }
         Ok(Entry {
             item: Item::Value(expr),
@@ -263,22 +232,15 @@ impl<F: Fn(Global, &Tokens, usize, u8, usize) -> Result<Read, Stop>> Reader<F> {
     }
 
     /// The items of an array or a list, and the token that closes it.
-    fn items(
-        &self,
-        tokens: &Tokens,
-        at: usize,
-        form: ArrayForm,
-        room: usize,
-    ) -> Result<Listed<Item<Expr>>, Stop>
-        requires ready { Ready self.now.bound room (F.pre self.now.expr) (F.post self.now.expr) }
-        requires within { at ≤ length tokens.now }
-        ensures { AnswersItems form room tokens.now at result }
+    fn items(&self, at: usize, form: ArrayForm) -> Result<Listed<Item<Expr>>, Stop>
+        requires within { at ≤ length self.now.reader.tokens.now }
+        ensures { AnswersItems form self.now.reader at result }
     {
-        let mut items = Items::new(self.alloc);
+        let mut items = Items::new(self.reader.alloc);
         let mut next = at;
         loop {
-            if ends_with(tokens, next, closer_of(form)) {
-                if room == 1 {
+            if ends_with(self.reader.tokens, next, closer_of(form)) {
+                if self.reader.room == 1 {
                     return Err(Stop::TooDeep(next));
                 }
                 return Ok(Listed {
@@ -286,22 +248,22 @@ impl<F: Fn(Global, &Tokens, usize, u8, usize) -> Result<Read, Stop>> Reader<F> {
                     next: next + 1,
                 });
             }
-            if ends_with(tokens, next, Closer::Comma) {
-                if room == 1 {
+            if ends_with(self.reader.tokens, next, Closer::Comma) {
+                if self.reader.room == 1 {
                     return Err(Stop::TooDeep(next));
                 }
                 items.push(Item::Missing)?;
                 next += 1;
             } else {
-                let entry = self.item(tokens, next, form, room)?;
+                let entry = self.item(next, form)?;
                 items.push(entry.item)?;
-                if ends_with(tokens, entry.next, closer_of(form)) {
+                if ends_with(self.reader.tokens, entry.next, closer_of(form)) {
                     return Ok(Listed {
                         items,
                         next: entry.next + 1,
                     });
                 }
-                if !ends_with(tokens, entry.next, Closer::Comma) {
+                if !ends_with(self.reader.tokens, entry.next, Closer::Comma) {
                     return Err(Stop::Syntax(entry.next));
                 }
                 next = entry.next + 1;
@@ -310,53 +272,48 @@ impl<F: Fn(Global, &Tokens, usize, u8, usize) -> Result<Read, Stop>> Reader<F> {
     }
 
     /// `[..]`
-    fn brackets(&self, tokens: &Tokens, at: usize, room: usize) -> Result<Taken, Stop>
-        requires ready { Ready self.now.bound room (F.pre self.now.expr) (F.post self.now.expr) }
-        requires here { Shows beginning tokens.now at (role.at_listed (tree.array array_form.Brackets)) }
-        ensures { AnswersLeaf room tokens.now at result }
+    fn brackets(&self, at: usize) -> Result<Taken, Stop>
+        requires here { Shows beginning self.now.reader.tokens.now at (role.at_listed (tree.array array_form.Brackets)) }
+        ensures { AnswersLeaf self.now.reader at result }
     {
-        let items = self.items(tokens, at + 1, ArrayForm::Brackets, room)?;
+        let items = self.items(at + 1, ArrayForm::Brackets)?;
         Ok(Taken {
             next: items.next,
-            expr: listed(spot(tokens, at), ArrayForm::Brackets, items.items),
-            edge: 200,
+            expr: listed(
+                spot(self.reader.tokens, at),
+                ArrayForm::Brackets,
+                items.items,
+            ),
+            edge: TOP,
         })
     }
 
     /// `array(..)` or `list(..)`
-    fn words(&self, tokens: &Tokens, at: usize, form: ArrayForm, room: usize) -> Result<Taken, Stop>
-        requires ready { Ready self.now.bound room (F.pre self.now.expr) (F.post self.now.expr) }
-        requires here { Shows beginning tokens.now at (role.at_listed (tree.array form)) }
+    fn words(&self, at: usize, form: ArrayForm) -> Result<Taken, Stop>
+        requires here { Shows beginning self.now.reader.tokens.now at (role.at_listed (tree.array form)) }
         requires word { form ≢ array_form.Brackets }
-        ensures { AnswersLeaf room tokens.now at result }
+        ensures { AnswersLeaf self.now.reader at result }
     {
         let paren = at + 1;
-        if !sees_paren(tokens, paren) {
+        if !sees_paren(self.reader.tokens, paren) {
             return Err(Stop::Syntax(paren));
         }
-        let items = self.items(tokens, paren + 1, form, room)?;
+        let items = self.items(paren + 1, form)?;
         Ok(Taken {
             next: items.next,
-            expr: listed(spot(tokens, at), form, items.items),
-            edge: 200,
+            expr: listed(spot(self.reader.tokens, at), form, items.items),
+            edge: TOP,
         })
     }
 
     /// An array or a list.
-    pub(crate) fn array(
-        &self,
-        tokens: &Tokens,
-        at: usize,
-        form: ArrayForm,
-        room: usize,
-    ) -> Result<Taken, Stop>
-        requires ready { Ready self.now.bound room (F.pre self.now.expr) (F.post self.now.expr) }
-        requires here { Shows beginning tokens.now at (role.at_listed (tree.array form)) }
-        ensures { AnswersLeaf room tokens.now at result }
+    pub(crate) fn array(&self, at: usize, form: ArrayForm) -> Result<Taken, Stop>
+        requires here { Shows beginning self.now.reader.tokens.now at (role.at_listed (tree.array form)) }
+        ensures { AnswersLeaf self.now.reader at result }
     {
         match form {
-            ArrayForm::Brackets => self.brackets(tokens, at, room),
-            ArrayForm::Array | ArrayForm::List => self.words(tokens, at, form, room),
+            ArrayForm::Brackets => self.brackets(at),
+            ArrayForm::Array | ArrayForm::List => self.words(at, form),
         }
     }
 }

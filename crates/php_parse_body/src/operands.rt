@@ -7,20 +7,25 @@ ghost use Rattle.php_grammar.specs.expression.Role as role;
 ghost use Rattle.php_grammar.specs.expression.Role.{beginning, continuation};
 ghost use Rattle.php_ast.specs.expression.View.{view};
 ghost use Rattle.php_ast.specs.expression.Placed.{notes_of};
-ghost use Rattle.php_parse_body.specs.Answer.{AnswersLeaf, Ready};
-ghost use Rattle.php_parse_body.specs.Flat.{is_flat_leaf};
-ghost use Rattle.php_parse_body.specs.Seen.{Shows};
-ghost use Rattle.php_parse_body.specs.SignView.{leaf_view, opening_view};
-ghost use Rattle.php_parse_body.specs.declared.sign.Opening.TheVariants.{Static};
+ghost use Rattle.php_parse_body.specs.Answer.{AnswersLeaf};
+ghost use Rattle.php_build.specs.Flat.{is_flat_leaf};
+ghost use Rattle.php_reader.specs.Seen.{Shows};
+ghost use Rattle.php_reader.specs.SignView.{leaf_view, opening_view};
+ghost use Rattle.php_reader.specs.declared.sign.Opening.TheVariants.{Static};
 
-use crate::build::{bare_exit, emptied, empty_exit, exited, grouped, of_static};
-use crate::fail::Stop;
-use crate::look::{ends_with, member_at, name_at, sees_paren, sees_right_paren, spot, text_at};
-use crate::reader::{Read, Reader, Taken};
-use crate::sign::{Closer, LeafKind, Opening};
+use crate::inner::ReadsInner;
+use crate::parser::Parser;
+use crate::read::{Read, Taken};
 use php_ast::Expr;
 use php_base::NoMemory;
+use php_build::build::{bare_exit, emptied, empty_exit, exited, grouped, of_static};
 use php_lex::Tokens;
+use php_reader::Stop;
+use php_reader::limit::{LEAST_POWER, OPEN_EXIT, TOP};
+use php_reader::look::{
+    ends_with, member_at, name_at, sees_paren, sees_right_paren, spot, text_at,
+};
+use php_reader::sign::{Closer, LeafKind, Opening};
 use std::alloc::Global;
 
 /// An operand of one token.
@@ -38,131 +43,121 @@ fn leaf_expr(alloc: Global, tokens: &Tokens, at: usize, kind: LeafKind) -> Resul
     }
 }
 
-fn single(alloc: Global, tokens: &Tokens, at: usize, kind: LeafKind) -> Result<Taken, Stop>
-    requires here { Shows beginning tokens.now at (role.at_leaf (leaf_view kind (token_at tokens.now at).text)) }
-    ensures { (room : ℕ) → 1 ≤ room → AnswersLeaf room tokens.now at result }
-{
-    Ok(Taken {
-        expr: leaf_expr(alloc, tokens, at, kind)?,
-        edge: 200,
-        next: at + 1,
-    })
-}
-
-/// `static :: name`
-fn static_member(alloc: Global, tokens: &Tokens, at: usize) -> Result<Taken, Stop>
-    requires here { Shows beginning tokens.now at role.at_static }
-    requires colons { Shows continuation tokens.now (at + 1) (role.draws (role.by_select tree.colons)) }
-    ensures { (room : ℕ) → 1 ≤ room → AnswersLeaf room tokens.now at result }
-{
-    let colons = at + 1;
-    let Some(member) = member_at(alloc, tokens, colons + 1)? else {
-        return Err(Stop::Syntax(colons + 1));
-    };
-    Ok(Taken {
-        expr: of_static(alloc, spot(tokens, at), member)?,
-        edge: 200,
-        next: colons + 1 + 1,
-    })
-}
-
-impl<F: Fn(Global, &Tokens, usize, u8, usize) -> Result<Read, Stop>> Reader<F> {
-    /// `(..)`
-    fn group(&self, tokens: &Tokens, at: usize, room: usize) -> Result<Taken, Stop>
-        requires ready { Ready self.now.bound room (F.pre self.now.expr) (F.post self.now.expr) }
-        requires here { Shows beginning tokens.now at (role.at_enclosed tree.parentheses) }
-        ensures { AnswersLeaf room tokens.now at result }
+impl<'t, R: ReadsInner> Parser<'t, R> {
+    fn single(&self, at: usize, kind: LeafKind) -> Result<Taken, Stop>
+        requires here { Shows beginning self.now.reader.tokens.now at (role.at_leaf (leaf_view kind (token_at self.now.reader.tokens.now at).text)) }
+        ensures { AnswersLeaf self.now.reader at result }
     {
-        let inside = self.deeper(tokens, at + 1, 1, room)?;
-        if !ends_with(tokens, inside.next, Closer::Paren) {
+        Ok(Taken {
+            expr: leaf_expr(self.reader.alloc, self.reader.tokens, at, kind)?,
+            edge: TOP,
+            next: at + 1,
+        })
+    }
+
+    /// `static :: name`
+    fn static_member(&self, at: usize) -> Result<Taken, Stop>
+        requires here { Shows beginning self.now.reader.tokens.now at role.at_static }
+        requires colons { Shows continuation self.now.reader.tokens.now (at + 1) (role.draws (role.by_select tree.colons)) }
+        ensures { AnswersLeaf self.now.reader at result }
+    {
+        let colons = at + 1;
+        let Some(member) = member_at(self.reader.alloc, self.reader.tokens, colons + 1)? else {
+            return Err(Stop::Syntax(colons + 1));
+        };
+        Ok(Taken {
+            expr: of_static(self.reader.alloc, spot(self.reader.tokens, at), member)?,
+            edge: TOP,
+            next: colons + 1 + 1,
+        })
+    }
+
+    /// `(..)`
+    fn group(&self, at: usize) -> Result<Taken, Stop>
+        requires here { Shows beginning self.now.reader.tokens.now at (role.at_enclosed tree.parentheses) }
+        ensures { AnswersLeaf self.now.reader at result }
+    {
+        let inside = self.deeper(at + 1, LEAST_POWER)?;
+        if !ends_with(self.reader.tokens, inside.next, Closer::Paren) {
             return Err(Stop::Syntax(inside.next));
         }
         Ok(Taken {
             next: inside.next + 1,
-            expr: grouped(self.alloc, spot(tokens, at), inside.expr)?,
-            edge: 200,
+            expr: grouped(self.reader.alloc, spot(self.reader.tokens, at), inside.expr)?,
+            edge: TOP,
         })
     }
 
     /// `empty(..)`
-    fn empty(&self, tokens: &Tokens, at: usize, room: usize) -> Result<Taken, Stop>
-        requires ready { Ready self.now.bound room (F.pre self.now.expr) (F.post self.now.expr) }
-        requires here { Shows beginning tokens.now at (role.at_enclosed tree.emptiness) }
-        ensures { AnswersLeaf room tokens.now at result }
+    fn empty(&self, at: usize) -> Result<Taken, Stop>
+        requires here { Shows beginning self.now.reader.tokens.now at (role.at_enclosed tree.emptiness) }
+        ensures { AnswersLeaf self.now.reader at result }
     {
         let paren = at + 1;
-        if !sees_paren(tokens, paren) {
+        if !sees_paren(self.reader.tokens, paren) {
             return Err(Stop::Syntax(paren));
         }
-        let inside = self.deeper(tokens, paren + 1, 1, room)?;
-        if !ends_with(tokens, inside.next, Closer::Paren) {
+        let inside = self.deeper(paren + 1, LEAST_POWER)?;
+        if !ends_with(self.reader.tokens, inside.next, Closer::Paren) {
             return Err(Stop::Syntax(inside.next));
         }
         Ok(Taken {
             next: inside.next + 1,
-            expr: emptied(self.alloc, spot(tokens, at), inside.expr)?,
-            edge: 200,
+            expr: emptied(self.reader.alloc, spot(self.reader.tokens, at), inside.expr)?,
+            edge: TOP,
         })
     }
 
     /// `exit`, `exit()` and `exit(..)`
-    fn exit(&self, tokens: &Tokens, at: usize, room: usize) -> Result<Taken, Stop>
-        requires ready { Ready self.now.bound room (F.pre self.now.expr) (F.post self.now.expr) }
-        requires here { Shows beginning tokens.now at role.at_exit }
-        ensures { AnswersLeaf room tokens.now at result }
+    fn exit(&self, at: usize) -> Result<Taken, Stop>
+        requires here { Shows beginning self.now.reader.tokens.now at role.at_exit }
+        ensures { AnswersLeaf self.now.reader at result }
     {
         let paren = at + 1;
-        if !sees_paren(tokens, paren) {
+        if !sees_paren(self.reader.tokens, paren) {
             return Ok(Taken {
-                expr: bare_exit(spot(tokens, at)),
-                edge: 105,
+                expr: bare_exit(spot(self.reader.tokens, at)),
+                edge: OPEN_EXIT,
                 next: paren,
             });
         }
-        if sees_right_paren(tokens, paren + 1) {
-            if room == 1 {
+        if sees_right_paren(self.reader.tokens, paren + 1) {
+            if self.reader.room == 1 {
                 return Err(Stop::TooDeep(paren + 1));
             }
             return Ok(Taken {
-                expr: empty_exit(spot(tokens, at)),
-                edge: 200,
+                expr: empty_exit(spot(self.reader.tokens, at)),
+                edge: TOP,
                 next: paren + 1 + 1,
             });
         }
-        let inside = self.deeper(tokens, paren + 1, 1, room)?;
-        if !ends_with(tokens, inside.next, Closer::Paren) {
+        let inside = self.deeper(paren + 1, LEAST_POWER)?;
+        if !ends_with(self.reader.tokens, inside.next, Closer::Paren) {
             return Err(Stop::Syntax(inside.next));
         }
         Ok(Taken {
             next: inside.next + 1,
-            expr: exited(self.alloc, spot(tokens, at), inside.expr)?,
-            edge: 200,
+            expr: exited(self.reader.alloc, spot(self.reader.tokens, at), inside.expr)?,
+            edge: TOP,
         })
     }
 
     /// An operand without suffixes, which begins as `opening` says.
-    pub(crate) fn leaf(
-        &self,
-        tokens: &Tokens,
-        at: usize,
-        opening: Opening,
-        room: usize,
-    ) -> Result<Taken, Stop>
-        requires ready { Ready self.now.bound room (F.pre self.now.expr) (F.post self.now.expr) }
-        requires here { Shows beginning tokens.now at (opening_view opening (token_at tokens.now at).text) }
-        requires colons { opening ≡ Static → Shows continuation tokens.now (at + 1) (role.draws (role.by_select tree.colons)) }
-        ensures { AnswersLeaf room tokens.now at result }
+    pub(crate) fn leaf(&self, at: usize, opening: Opening) -> Result<Taken, Stop>
+        requires here { Shows beginning self.now.reader.tokens.now at (opening_view opening (token_at self.now.reader.tokens.now at).text) }
+        requires colons { opening ≡ Static → Shows continuation self.now.reader.tokens.now (at + 1) (role.draws (role.by_select tree.colons)) }
+        ensures { AnswersLeaf self.now.reader at result }
     {
         match opening {
-            Opening::Leaf(kind) => single(self.alloc, tokens, at, kind),
-            Opening::Static => static_member(self.alloc, tokens, at),
-            Opening::Quote => self.template(tokens, at, room),
-            Opening::Exit => self.exit(tokens, at, room),
-            Opening::New => self.new_object(tokens, at, room),
-            Opening::Group => self.group(tokens, at, room),
-            Opening::Empty => self.empty(tokens, at, room),
-            Opening::Array(form) => self.array(tokens, at, form, room),
-            Opening::IsSet => self.isset(tokens, at, room),
+            Opening::Leaf(kind) => self.single(at, kind),
+            Opening::Static => self.static_member(at),
+            Opening::Quote => self.template(at),
+            Opening::Exit => self.exit(at),
+            Opening::New => self.new_object(at),
+            Opening::Group => self.group(at),
+            Opening::Empty => self.empty(at),
+            Opening::Array(form) => self.array(at, form),
+            Opening::IsSet => self.isset(at),
         }
     }
 }

@@ -2,37 +2,14 @@
 
 ghost use Rattle.std.specs.Prelude.{◌≡◌, ◌≤◌, ◌-◌, true, length, IfOk, IfErr};
 ghost use Rattle.php_parse_body.specs.Exact as exact;
-ghost use Rattle.php_parse_body.specs.Flat.{is_flat};
+ghost use Rattle.php_build.specs.Flat.{is_flat};
 
-use crate::expression::expr;
-use crate::fail::{ParseFail, Stop};
+use crate::expression::read_expression;
 use php_ast::Expr;
 use php_lex::Tokens;
+use php_reader::limit::{LEAST_POWER, NESTING_LIMIT};
+use php_reader::{ParseFail, Reader, with_line};
 use std::alloc::Global;
-
-/// The line of the token at a place; behind the last token its line, or 1 where there is no token.
-fn line_of(tokens: &Tokens, place: usize) -> u32
-    ensures { result ≡ exact.line_at tokens.now place }
-{
-    let count = tokens.len();
-    if count == 0 {
-        return 1;
-    }
-    if place < count {
-        return tokens.line(place);
-    }
-    tokens.line(count - 1)
-}
-
-fn with_line(tokens: &Tokens, stop: Stop) -> ParseFail
-    ensures { exact.IsLined tokens.now stop result }
-{
-    match stop {
-        Stop::Syntax(place) => ParseFail::Syntax(place, line_of(tokens, place)),
-        Stop::TooDeep(place) => ParseFail::TooDeep(place, line_of(tokens, place)),
-        Stop::NoMemory => ParseFail::NoMemory,
-    }
-}
 
 /// The expression that begins at the token `at`, and the place of the first token behind it.
 ///
@@ -54,7 +31,12 @@ pub fn parse_expr(
     ensures flat { IfOk result (λ r. is_flat r.0 ≡ true) }
     ensures refused { IfErr result (λ fail. exact.IsRefused depth tokens.now at fail) }
 {
-    match expr(alloc, tokens, at, 1, 129 - depth as usize) {
+    let reader = Reader {
+        alloc,
+        tokens,
+        room: NESTING_LIMIT + 1 - depth as usize,
+    };
+    match read_expression(&reader, at, LEAST_POWER) {
         Ok(read) => Ok((read.expr, read.next)),
         Err(stop) => Err(with_line(tokens, stop)),
     }

@@ -4,12 +4,12 @@ ghost use Rattle.std.specs.Prelude.{◌≡◌, ◌≤◌, true, IfOk};
 ghost use Rattle.php_ast.specs.PowerView.{row_view};
 ghost use Rattle.php_ast.specs.expression.Proper.{edge, right};
 ghost use Rattle.php_ast.specs.expression.View.{view};
-ghost use Rattle.php_parse_body.specs.Flat.{is_flat};
+ghost use Rattle.php_build.specs.Flat.{is_flat};
 ghost use Rattle.php_parse_body.specs.BetweenView.{are_flat_sides, closed_view, row_between};
 
-use crate::build::{joined, linked};
-use crate::reader::Read;
+use crate::read::Read;
 use php_ast::{Binary, Expr, Grouping, Link, Row, row_of, row_of_choice};
+use php_build::build::{joined, linked};
 use sqlite_items::Boxed;
 use std::alloc::{AllocError, Global};
 

@@ -4,24 +4,29 @@ ghost use Rattle.std.specs.Prelude.{◌≡◌, ◌≤◌, ◌<◌, ◌+◌, ◌-
 ghost use Rattle.php_token.specs.Token.{token_at};
 ghost use Rattle.php_ast.specs.expression.Tree.{colons};
 ghost use Rattle.php_ast.specs.Power.{assign_row, yield_power};
-ghost use Rattle.php_ast.specs.expression.Proper.{edge, right};
+ghost use Rattle.php_ast.specs.expression.Proper.{edge, free, right};
 ghost use Rattle.php_grammar.specs.expression.Role as role;
 ghost use Rattle.php_grammar.specs.expression.Role.{beginning, closes, continuation, draws, ends_yield, is_ampersand};
 ghost use Rattle.php_ast.specs.declared.operator.Assign.TheVariants.{Plain};
 ghost use Rattle.php_grammar.specs.expression.Laws.{head_continuation};
-ghost use Rattle.php_parse_body.specs.declared.sign.Opening.TheVariants.{Static};
-ghost use Rattle.php_parse_body.specs.Answer.{AnswersAssigned, AnswersHere, AnswersYield, Ready, SeesChange, SeesStatic};
-ghost use Rattle.php_parse_body.specs.Seen.{Shows, rest, test};
-ghost use Rattle.php_parse_body.specs.SignView.{opening_view};
+ghost use Rattle.php_reader.specs.declared.sign.Opening.TheVariants.{Static};
+ghost use Rattle.php_parse_body.specs.Answer.{AnswersAssigned, AnswersHere, AnswersYield, SeesChange, SeesStatic};
+ghost use Rattle.php_reader.specs.Seen.{Shows, rest, test};
+ghost use Rattle.php_reader.specs.SignView.{opening_view};
 
-use crate::build::{assigned, counted, prefixed, referred, yielded, yielded_nothing, yielded_pair};
-use crate::fail::Stop;
-use crate::look::{ends_with, next_at, sees_ampersand, spot, start_at};
+use crate::inner::ReadsInner;
+use crate::parser::Parser;
 use crate::pending::{edge_of, right_of};
-use crate::reader::{Operand, Read, Reader};
-use crate::sign::{Closer, Next, Opening, Start, Tail};
+use crate::read::{Operand, Read};
 use php_ast::{Assign, Count, Prefix, power_of_yield, prefix_power_of, row_of_assignment};
+use php_build::build::{
+    assigned, counted, prefixed, referred, yielded, yielded_nothing, yielded_pair,
+};
 use php_lex::Tokens;
+use php_reader::Stop;
+use php_reader::limit::OPEN_COUNT;
+use php_reader::look::{ends_with, next_at, sees_ampersand, spot, start_at};
+use php_reader::sign::{Closer, Next, Opening, Start, Tail};
 use std::alloc::Global;
 
 /// Whether `static` stands alone, with no `::` behind it.
@@ -82,95 +87,83 @@ fn change_at(tokens: &Tokens, at: usize) -> Option<Change>
     }
 }
 
-impl<F: Fn(Global, &Tokens, usize, u8, usize) -> Result<Read, Stop>> Reader<F> {
+impl<'t, R: ReadsInner> Parser<'t, R> {
     /// A prefix operator and its operand.
-    fn prefix(&self, tokens: &Tokens, at: usize, op: Prefix, room: usize) -> Result<Read, Stop>
-        requires ready { Ready self.now.bound room (F.pre self.now.expr) (F.post self.now.expr) }
-        requires here { Shows beginning tokens.now at (role.at_prefix op) }
-        ensures { AnswersHere room 50 50 tokens.now at result }
+    fn prefix(&self, at: usize, op: Prefix) -> Result<Read, Stop>
+        requires here { Shows beginning self.now.reader.tokens.now at (role.at_prefix op) }
+        ensures { AnswersHere self.now.reader free free at result }
     {
         let power = prefix_power_of(op);
-        let operand = self.deeper(tokens, at + 1, power + 1, room)?;
+        let operand = self.deeper(at + 1, power + 1)?;
         Ok(Read {
             edge: power.min(operand.edge),
             next: operand.next,
-            expr: prefixed(self.alloc, spot(tokens, at), op, operand.expr)?,
+            expr: prefixed(
+                self.reader.alloc,
+                spot(self.reader.tokens, at),
+                op,
+                operand.expr,
+            )?,
         })
     }
 
     /// The value that is assigned to `left`, from the sign on.
-    fn by_value(
-        &self,
-        tokens: &Tokens,
-        left: Operand,
-        op: Assign,
-        room: usize,
-    ) -> Result<Read, Stop>
-        requires ready { Ready self.now.bound room (F.pre self.now.expr) (F.post self.now.expr) }
-        requires here { Shows continuation tokens.now left.next (draws (role.by_assign op)) }
-        requires no_reference { op ≡ Plain → test is_ampersand (rest tokens.now (left.next + 1)) ≡ false }
-        ensures { AnswersAssigned left room tokens.now result }
+    fn by_value(&self, left: Operand, op: Assign) -> Result<Read, Stop>
+        requires here { Shows continuation self.now.reader.tokens.now left.next (draws (role.by_assign op)) }
+        requires no_reference { op ≡ Plain → test is_ampersand (rest self.now.reader.tokens.now (left.next + 1)) ≡ false }
+        ensures { AnswersAssigned left self.now.reader result }
     {
-        let value = self.deeper(tokens, left.next + 1, value_power(), room)?;
+        let value = self.deeper(left.next + 1, value_power())?;
         Ok(Read {
             edge: assigned_edge().min(value.edge),
             next: value.next,
-            expr: assigned(self.alloc, op, left.expr, value.expr)?,
+            expr: assigned(self.reader.alloc, op, left.expr, value.expr)?,
         })
     }
 
     /// The source that `left` is made an alias of, from the `=` on.
-    fn by_reference(&self, tokens: &Tokens, left: Operand, room: usize) -> Result<Read, Stop>
-        requires ready { Ready self.now.bound room (F.pre self.now.expr) (F.post self.now.expr) }
-        requires here { Shows continuation tokens.now left.next (draws (role.by_assign Plain)) }
-        requires reference { Shows is_ampersand tokens.now (left.next + 1) true }
-        ensures { AnswersAssigned left room tokens.now result }
+    fn by_reference(&self, left: Operand) -> Result<Read, Stop>
+        requires here { Shows continuation self.now.reader.tokens.now left.next (draws (role.by_assign Plain)) }
+        requires reference { Shows is_ampersand self.now.reader.tokens.now (left.next + 1) true }
+        ensures { AnswersAssigned left self.now.reader result }
     {
         let ampersand = left.next + 1;
-        let source = self.deeper(tokens, ampersand + 1, value_power(), room)?;
+        let source = self.deeper(ampersand + 1, value_power())?;
         Ok(Read {
             edge: assigned_edge().min(source.edge),
             next: source.next,
-            expr: referred(self.alloc, left.expr, source.expr)?,
+            expr: referred(self.reader.alloc, left.expr, source.expr)?,
         })
     }
 
     /// An assignment to `left`.
-    fn assignment(
-        &self,
-        tokens: &Tokens,
-        left: Operand,
-        op: Assign,
-        room: usize,
-    ) -> Result<Read, Stop>
-        requires ready { Ready self.now.bound room (F.pre self.now.expr) (F.post self.now.expr) }
-        requires here { Shows continuation tokens.now left.next (draws (role.by_assign op)) }
-        ensures { AnswersAssigned left room tokens.now result }
+    fn assignment(&self, left: Operand, op: Assign) -> Result<Read, Stop>
+        requires here { Shows continuation self.now.reader.tokens.now left.next (draws (role.by_assign op)) }
+        ensures { AnswersAssigned left self.now.reader result }
     {
         if let Assign::Plain = op {
-            if sees_ampersand(tokens, left.next + 1) {
-                return self.by_reference(tokens, left, room);
+            if sees_ampersand(self.reader.tokens, left.next + 1) {
+                return self.by_reference(left);
             }
         }
-        self.by_value(tokens, left, op, room)
+        self.by_value(left, op)
     }
 
     /// An operand, alone, counted or assigned.
-    fn place(&self, tokens: &Tokens, at: usize, opening: Opening, room: usize) -> Result<Read, Stop>
-        requires ready { Ready self.now.bound room (F.pre self.now.expr) (F.post self.now.expr) }
-        requires here { Shows beginning tokens.now at (opening_view opening (token_at tokens.now at).text) }
-        ensures { AnswersHere room 50 50 tokens.now at result }
+    fn place(&self, at: usize, opening: Opening) -> Result<Read, Stop>
+        requires here { Shows beginning self.now.reader.tokens.now at (opening_view opening (token_at self.now.reader.tokens.now at).text) }
+        ensures { AnswersHere self.now.reader free free at result }
     {
-        if lacks_colons(tokens, at, opening) {
+        if lacks_colons(self.reader.tokens, at, opening) {
             return Err(Stop::Syntax(at + 1));
         }
-        let left = self.operand(tokens, at, opening, room)?;
-        match change_at(tokens, left.next) {
-            Some(Change::Sets(op)) => self.assignment(tokens, left, op, room),
+        let left = self.operand(at, opening)?;
+        match change_at(self.reader.tokens, left.next) {
+            Some(Change::Sets(op)) => self.assignment(left, op),
             Some(Change::Counts(count)) => Ok(Read {
-                edge: 50,
+                edge: OPEN_COUNT,
                 next: left.next + 1,
-                expr: counted(self.alloc, left.expr, count)?,
+                expr: counted(self.reader.alloc, left.expr, count)?,
             }),
             None => Ok(Read {
                 expr: left.expr,
@@ -181,55 +174,57 @@ impl<F: Fn(Global, &Tokens, usize, u8, usize) -> Result<Read, Stop>> Reader<F> {
     }
 
     /// `yield key => value`, from the `=>` on.
-    fn yield_pair(&self, tokens: &Tokens, at: usize, key: Read, room: usize) -> Result<Read, Stop>
-        requires ready { Ready self.now.bound room (F.pre self.now.expr) (F.post self.now.expr) }
-        requires arrow { Shows continuation tokens.now key.next (closes role.double_arrow) }
-        requires start { at < length tokens.now }
-        requires deep { 2 ≤ room }
-        ensures { AnswersYield key room tokens.now at result }
+    fn yield_pair(&self, at: usize, key: Read) -> Result<Read, Stop>
+        requires arrow { Shows continuation self.now.reader.tokens.now key.next (closes role.double_arrow) }
+        requires start { at < length self.now.reader.tokens.now }
+        requires deep { 2 ≤ self.now.reader.room }
+        ensures { AnswersYield key self.now.reader at result }
     {
-        let value = self.deeper(tokens, key.next + 1, yielded_power(), room)?;
+        let value = self.deeper(key.next + 1, yielded_power())?;
         Ok(Read {
             edge: power_of_yield().min(value.edge),
             next: value.next,
-            expr: yielded_pair(self.alloc, spot(tokens, at), key.expr, value.expr)?,
+            expr: yielded_pair(
+                self.reader.alloc,
+                spot(self.reader.tokens, at),
+                key.expr,
+                value.expr,
+            )?,
         })
     }
 
     /// `yield` alone, with a value, or with a key and a value.
-    fn yielding(&self, tokens: &Tokens, at: usize, room: usize) -> Result<Read, Stop>
-        requires ready { Ready self.now.bound room (F.pre self.now.expr) (F.post self.now.expr) }
-        requires here { Shows beginning tokens.now at role.at_yield }
-        ensures { AnswersHere room 50 50 tokens.now at result }
+    fn yielding(&self, at: usize) -> Result<Read, Stop>
+        requires here { Shows beginning self.now.reader.tokens.now at role.at_yield }
+        ensures { AnswersHere self.now.reader free free at result }
     {
-        if yields_nothing(tokens, at + 1) {
+        if yields_nothing(self.reader.tokens, at + 1) {
             return Ok(Read {
-                expr: yielded_nothing(spot(tokens, at)),
+                expr: yielded_nothing(spot(self.reader.tokens, at)),
                 edge: 1,
                 next: at + 1,
             });
         }
-        let value = self.deeper(tokens, at + 1, yielded_power(), room)?;
-        if ends_with(tokens, value.next, Closer::DoubleArrow) {
-            return self.yield_pair(tokens, at, value, room);
+        let value = self.deeper(at + 1, yielded_power())?;
+        if ends_with(self.reader.tokens, value.next, Closer::DoubleArrow) {
+            return self.yield_pair(at, value);
         }
         Ok(Read {
             edge: power_of_yield().min(value.edge),
             next: value.next,
-            expr: yielded(self.alloc, spot(tokens, at), value.expr)?,
+            expr: yielded(self.reader.alloc, spot(self.reader.tokens, at), value.expr)?,
         })
     }
 
     /// What stands at a place before the first operator behind it.
-    pub(crate) fn first(&self, tokens: &Tokens, at: usize, room: usize) -> Result<Read, Stop>
-        requires ready { Ready self.now.bound room (F.pre self.now.expr) (F.post self.now.expr) }
-        requires within { at ≤ length tokens.now }
-        ensures { AnswersHere room 50 50 tokens.now at result }
+    pub(crate) fn first(&self, at: usize) -> Result<Read, Stop>
+        requires within { at ≤ length self.now.reader.tokens.now }
+        ensures { AnswersHere self.now.reader free free at result }
     {
-        match start_at(tokens, at) {
-            Start::Operand(opening) => self.place(tokens, at, opening, room),
-            Start::Prefix(op) => self.prefix(tokens, at, op, room),
-            Start::Yield => self.yielding(tokens, at, room),
+        match start_at(self.reader.tokens, at) {
+            Start::Operand(opening) => self.place(at, opening),
+            Start::Prefix(op) => self.prefix(at, op),
+            Start::Yield => self.yielding(at),
             Start::Nothing => Err(Stop::Syntax(at)),
         }
     }

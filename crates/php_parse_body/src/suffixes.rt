@@ -8,53 +8,23 @@ ghost use Rattle.php_grammar.specs.expression.Role as role;
 ghost use Rattle.php_grammar.specs.expression.Role.{beginning, continuation, draws, draw_strength, is_left_brace};
 ghost use Rattle.php_grammar.specs.expression.Machine.{Form};
 ghost use Rattle.php_ast.specs.expression.Tree.{thin, colons};
-ghost use Rattle.php_parse_body.specs.Answer.{AnswersOperand, AnswersSuffix, Ready, SeesTail};
-ghost use Rattle.php_parse_body.specs.declared.sign.Opening.TheVariants.{Static};
-ghost use Rattle.php_parse_body.specs.Seen.{Shows, test, rest};
-ghost use Rattle.php_parse_body.specs.SignView.{opening_view, tail_view};
+ghost use Rattle.php_parse_body.specs.Answer.{AnswersOperand, AnswersSuffix, SeesTail};
+ghost use Rattle.php_reader.specs.declared.sign.Opening.TheVariants.{Static};
+ghost use Rattle.php_reader.specs.Seen.{Shows, test, rest};
+ghost use Rattle.php_reader.specs.SignView.{opening_view, tail_view};
 
-use crate::build::{chained, property_of};
-use crate::fail::Stop;
-use crate::look::{ends_with, member_at, next_at, sees_left_brace, sees_right_bracket};
-use crate::reader::{Followed, Operand, Read, Reader, Taken};
-use crate::sign::{Closer, Next, Opening, Tail, tail_strength};
+use crate::inner::ReadsInner;
+use crate::parser::Parser;
+use crate::read::{Followed, Operand, Read, Taken};
 use php_ast::{Named, Suffix};
+use php_build::build::{chained, property_of};
 use php_lex::Tokens;
+use php_reader::Stop;
+use php_reader::limit::{LEAST_POWER, TOP};
+use php_reader::look::{ends_with, member_at, next_at, sees_left_brace, sees_right_bracket};
+use php_reader::sign::{Closer, Next, Opening, Tail, tail_strength};
 use sqlite_items::Items;
 use std::alloc::Global;
-
-/// `:: name`
-fn member(alloc: Global, tokens: &Tokens, at: usize) -> Result<Followed, Stop>
-    requires here { Shows continuation tokens.now at (draws (role.by_select colons)) }
-    ensures { (room : ℕ) (f : Form) (start : ℕ) → 1 ≤ room → start + size f ≡ at → 100 < ends f → AnswersSuffix room f tokens.now start at result }
-{
-    let place = at + 1;
-    let Some(member) = member_at(alloc, tokens, place)? else {
-        return Err(Stop::Syntax(place));
-    };
-    Ok(Followed {
-        suffix: Suffix::Member(member),
-        is_call: false,
-        next: place + 1,
-    })
-}
-
-/// `-> name`
-fn property(alloc: Global, tokens: &Tokens, at: usize) -> Result<Followed, Stop>
-    requires here { Shows continuation tokens.now at (draws (role.by_select thin)) }
-    requires no_brace { test is_left_brace (rest tokens.now (at + 1)) ≡ false }
-    ensures { (room : ℕ) (f : Form) (start : ℕ) → 1 ≤ room → start + size f ≡ at → 100 < ends f → AnswersSuffix room f tokens.now start at result }
-{
-    let place = at + 1;
-    let Some(member) = member_at(alloc, tokens, place)? else {
-        return Err(Stop::Syntax(place));
-    };
-    Ok(Followed {
-        suffix: property_of(member),
-        is_call: false,
-        next: place + 1,
-    })
-}
 
 /// The suffix at a place behind an operand that is open to what draws less than `edge`.
 fn suffix_at(tokens: &Tokens, at: usize, edge: u8) -> Option<Tail>
@@ -69,16 +39,48 @@ fn suffix_at(tokens: &Tokens, at: usize, edge: u8) -> Option<Tail>
     Some(tail)
 }
 
-impl<F: Fn(Global, &Tokens, usize, u8, usize) -> Result<Read, Stop>> Reader<F> {
+impl<'t, R: ReadsInner> Parser<'t, R> {
+    /// `:: name`
+    fn member(&self, at: usize) -> Result<Followed, Stop>
+        requires here { Shows continuation self.now.reader.tokens.now at (draws (role.by_select colons)) }
+        ensures { (f : Form) (start : ℕ) → start + size f ≡ at → draw_strength role.by_index < ends f → AnswersSuffix self.now.reader f start at result }
+    {
+        let place = at + 1;
+        let Some(member) = member_at(self.reader.alloc, self.reader.tokens, place)? else {
+            return Err(Stop::Syntax(place));
+        };
+        Ok(Followed {
+            suffix: Suffix::Member(member),
+            is_call: false,
+            next: place + 1,
+        })
+    }
+
+    /// `-> name`
+    fn property(&self, at: usize) -> Result<Followed, Stop>
+        requires here { Shows continuation self.now.reader.tokens.now at (draws (role.by_select thin)) }
+        requires no_brace { test is_left_brace (rest self.now.reader.tokens.now (at + 1)) ≡ false }
+        ensures { (f : Form) (start : ℕ) → start + size f ≡ at → draw_strength role.by_index < ends f → AnswersSuffix self.now.reader f start at result }
+    {
+        let place = at + 1;
+        let Some(member) = member_at(self.reader.alloc, self.reader.tokens, place)? else {
+            return Err(Stop::Syntax(place));
+        };
+        Ok(Followed {
+            suffix: property_of(member),
+            is_call: false,
+            next: place + 1,
+        })
+    }
+
     /// `[]` and `[key]`
-    fn index(&self, tokens: &Tokens, at: usize, room: usize) -> Result<Followed, Stop>
-        requires ready { Ready self.now.bound room (F.pre self.now.expr) (F.post self.now.expr) }
-        requires here { Shows continuation tokens.now at (draws role.by_index) }
-        ensures { (f : Form) (start : ℕ) → start + size f ≡ at → 100 < ends f → AnswersSuffix room f tokens.now start at result }
+    fn index(&self, at: usize) -> Result<Followed, Stop>
+        requires here { Shows continuation self.now.reader.tokens.now at (draws role.by_index) }
+        ensures { (f : Form) (start : ℕ) → start + size f ≡ at → draw_strength role.by_index < ends f → AnswersSuffix self.now.reader f start at result }
     {
         let inside = at + 1;
-        if sees_right_bracket(tokens, inside) {
-            if room == 1 {
+        if sees_right_bracket(self.reader.tokens, inside) {
+            if self.reader.room == 1 {
                 return Err(Stop::TooDeep(inside));
             }
             return Ok(Followed {
@@ -91,8 +93,8 @@ impl<F: Fn(Global, &Tokens, usize, u8, usize) -> Result<Read, Stop>> Reader<F> {
             expr,
             edge: _,
             next,
-        } = self.deeper(tokens, inside, 1, room)?;
-        if !ends_with(tokens, next, Closer::Bracket) {
+        } = self.deeper(inside, LEAST_POWER)?;
+        if !ends_with(self.reader.tokens, next, Closer::Bracket) {
             return Err(Stop::Syntax(next));
         }
         Ok(Followed {
@@ -103,19 +105,18 @@ impl<F: Fn(Global, &Tokens, usize, u8, usize) -> Result<Read, Stop>> Reader<F> {
     }
 
     /// `-> {name}`
-    fn computed(&self, tokens: &Tokens, at: usize, room: usize) -> Result<Followed, Stop>
-        requires ready { Ready self.now.bound room (F.pre self.now.expr) (F.post self.now.expr) }
-        requires here { Shows continuation tokens.now at (draws (role.by_select thin)) }
-        requires brace { Shows is_left_brace tokens.now (at + 1) true }
-        ensures { (f : Form) (start : ℕ) → start + size f ≡ at → 100 < ends f → AnswersSuffix room f tokens.now start at result }
+    fn computed(&self, at: usize) -> Result<Followed, Stop>
+        requires here { Shows continuation self.now.reader.tokens.now at (draws (role.by_select thin)) }
+        requires brace { Shows is_left_brace self.now.reader.tokens.now (at + 1) true }
+        ensures { (f : Form) (start : ℕ) → start + size f ≡ at → draw_strength role.by_index < ends f → AnswersSuffix self.now.reader f start at result }
     {
         let brace = at + 1;
         let Read {
             expr,
             edge: _,
             next,
-        } = self.deeper(tokens, brace + 1, 1, room)?;
-        if !ends_with(tokens, next, Closer::Brace) {
+        } = self.deeper(brace + 1, LEAST_POWER)?;
+        if !ends_with(self.reader.tokens, next, Closer::Brace) {
             return Err(Stop::Syntax(next));
         }
         Ok(Followed {
@@ -126,12 +127,11 @@ impl<F: Fn(Global, &Tokens, usize, u8, usize) -> Result<Read, Stop>> Reader<F> {
     }
 
     /// `(arguments)`
-    fn call(&self, tokens: &Tokens, at: usize, room: usize) -> Result<Followed, Stop>
-        requires ready { Ready self.now.bound room (F.pre self.now.expr) (F.post self.now.expr) }
-        requires here { Shows continuation tokens.now at (draws role.by_call) }
-        ensures { (f : Form) (start : ℕ) → start + size f ≡ at → 110 < ends f → AnswersSuffix room f tokens.now start at result }
+    fn call(&self, at: usize) -> Result<Followed, Stop>
+        requires here { Shows continuation self.now.reader.tokens.now at (draws role.by_call) }
+        ensures { (f : Form) (start : ℕ) → start + size f ≡ at → draw_strength role.by_call < ends f → AnswersSuffix self.now.reader f start at result }
     {
-        let arguments = self.arguments(tokens, at + 1, room)?;
+        let arguments = self.arguments(at + 1)?;
         Ok(Followed {
             next: arguments.next,
             suffix: Suffix::Call(arguments.items),
@@ -140,60 +140,51 @@ impl<F: Fn(Global, &Tokens, usize, u8, usize) -> Result<Read, Stop>> Reader<F> {
     }
 
     /// `->` and what follows it.
-    fn selection(&self, tokens: &Tokens, at: usize, room: usize) -> Result<Followed, Stop>
-        requires ready { Ready self.now.bound room (F.pre self.now.expr) (F.post self.now.expr) }
-        requires here { Shows continuation tokens.now at (draws (role.by_select thin)) }
-        ensures { (f : Form) (start : ℕ) → start + size f ≡ at → 100 < ends f → AnswersSuffix room f tokens.now start at result }
+    fn selection(&self, at: usize) -> Result<Followed, Stop>
+        requires here { Shows continuation self.now.reader.tokens.now at (draws (role.by_select thin)) }
+        ensures { (f : Form) (start : ℕ) → start + size f ≡ at → draw_strength role.by_index < ends f → AnswersSuffix self.now.reader f start at result }
     {
-        if sees_left_brace(tokens, at + 1) {
-            return self.computed(tokens, at, room);
+        if sees_left_brace(self.reader.tokens, at + 1) {
+            return self.computed(at);
         }
-        property(self.alloc, tokens, at)
+        self.property(at)
     }
 
     /// The suffix that begins as `first` says.
-    fn suffix(&self, tokens: &Tokens, at: usize, first: Tail, room: usize) -> Result<Followed, Stop>
-        requires ready { Ready self.now.bound room (F.pre self.now.expr) (F.post self.now.expr) }
-        requires here { Shows continuation tokens.now at (draws (tail_view first)) }
-        ensures { (f : Form) (start : ℕ) → start + size f ≡ at → draw_strength (tail_view first) < ends f → AnswersSuffix room f tokens.now start at result }
+    fn suffix(&self, at: usize, first: Tail) -> Result<Followed, Stop>
+        requires here { Shows continuation self.now.reader.tokens.now at (draws (tail_view first)) }
+        ensures { (f : Form) (start : ℕ) → start + size f ≡ at → draw_strength (tail_view first) < ends f → AnswersSuffix self.now.reader f start at result }
     {
         match first {
-            Tail::Applies => self.call(tokens, at, room),
-            Tail::Subscripts => self.index(tokens, at, room),
-            Tail::Arrow => self.selection(tokens, at, room),
-            Tail::Colons => member(self.alloc, tokens, at),
+            Tail::Applies => self.call(at),
+            Tail::Subscripts => self.index(at),
+            Tail::Arrow => self.selection(at),
+            Tail::Colons => self.member(at),
         }
     }
 
     /// An operand with the suffixes behind it.
-    pub(crate) fn operand(
-        &self,
-        tokens: &Tokens,
-        at: usize,
-        opening: Opening,
-        room: usize,
-    ) -> Result<Operand, Stop>
-        requires ready { Ready self.now.bound room (F.pre self.now.expr) (F.post self.now.expr) }
-        requires here { Shows beginning tokens.now at (opening_view opening (token_at tokens.now at).text) }
-        requires colons { opening ≡ Static → Shows continuation tokens.now (at + 1) (draws (role.by_select colons)) }
-        ensures { AnswersOperand room tokens.now at result }
+    pub(crate) fn operand(&self, at: usize, opening: Opening) -> Result<Operand, Stop>
+        requires here { Shows beginning self.now.reader.tokens.now at (opening_view opening (token_at self.now.reader.tokens.now at).text) }
+        requires colons { opening ≡ Static → Shows continuation self.now.reader.tokens.now (at + 1) (draws (role.by_select colons)) }
+        ensures { AnswersOperand self.now.reader at result }
     {
         let Taken {
             expr: first,
             mut edge,
             mut next,
-        } = self.leaf(tokens, at, opening, room)?;
-        let mut suffixes = Items::new(self.alloc);
+        } = self.leaf(at, opening)?;
+        let mut suffixes = Items::new(self.reader.alloc);
         let mut is_call = false;
-        while let Some(tail) = suffix_at(tokens, next, edge) {
-            let found = self.suffix(tokens, next, tail, room)?;
+        while let Some(tail) = suffix_at(self.reader.tokens, next, edge) {
+            let found = self.suffix(next, tail)?;
             suffixes.push(found.suffix)?;
-            edge = 200;
+            edge = TOP;
             is_call = found.is_call;
             next = found.next;
         }
         Ok(Operand {
-            expr: chained(self.alloc, first, suffixes)?,
+            expr: chained(self.reader.alloc, first, suffixes)?,
             edge,
             is_call,
             next,

@@ -3,33 +3,35 @@
 ghost use Rattle.std.specs.Prelude.{◌≡◌, ◌≤◌, ◌<◌, ◌+◌, ◌-◌, ℕ, length, true, false};
 ghost use Rattle.php_grammar.specs.expression.Role as role;
 ghost use Rattle.php_grammar.specs.expression.Role.{beginning};
-ghost use Rattle.php_parse_body.specs.Answer.{AnswersLeaf, Ready};
+ghost use Rattle.php_parse_body.specs.Answer.{AnswersLeaf};
 ghost use Rattle.php_parse_body.specs.ListAnswer.{AnswersPart, AnswersPieces};
-ghost use Rattle.php_parse_body.specs.Seen.{Shows, is_opened, mold};
+ghost use Rattle.php_reader.specs.Seen.{Shows, is_opened, mold};
 
-use crate::build::templated;
-use crate::fail::Stop;
-use crate::look::{ends_with, mold_at, spot, text_at};
-use crate::reader::{Entry, Listed, Read, Reader, Taken};
-use crate::sign::{Closer, Mold};
+use crate::inner::ReadsInner;
+use crate::parser::Parser;
+use crate::read::{Entry, Listed, Read, Taken};
 use php_ast::{Expr, Piece};
+use php_build::build::templated;
 use php_lex::Tokens;
+use php_reader::Stop;
+use php_reader::limit::{LEAST_POWER, TOP};
+use php_reader::look::{ends_with, mold_at, spot, text_at};
+use php_reader::sign::{Closer, Mold};
 use sqlite_items::Items;
 use std::alloc::Global;
 
-impl<F: Fn(Global, &Tokens, usize, u8, usize) -> Result<Read, Stop>> Reader<F> {
+impl<'t, R: ReadsInner> Parser<'t, R> {
     /// A part, from its opening mark on.
-    fn part(&self, tokens: &Tokens, at: usize, room: usize) -> Result<Entry<Piece<Expr>>, Stop>
-        requires ready { Ready self.now.bound room (F.pre self.now.expr) (F.post self.now.expr) }
-        requires here { Shows mold tokens.now at is_opened }
-        ensures { AnswersPart room tokens.now at result }
+    fn part(&self, at: usize) -> Result<Entry<Piece<Expr>>, Stop>
+        requires here { Shows mold self.now.reader.tokens.now at is_opened }
+        ensures { AnswersPart self.now.reader at result }
     {
         let Read {
             expr,
             edge: _,
             next,
-        } = self.deeper(tokens, at + 1, 1, room)?;
-        if !ends_with(tokens, next, Closer::EndPart) {
+        } = self.deeper(at + 1, LEAST_POWER)?;
+        if !ends_with(self.reader.tokens, next, Closer::EndPart) {
             return Err(Stop::Syntax(next));
         }
         Ok(Entry {
@@ -39,21 +41,24 @@ impl<F: Fn(Global, &Tokens, usize, u8, usize) -> Result<Read, Stop>> Reader<F> {
     }
 
     /// The pieces behind an opening quote, and the closing one.
-    fn pieces(&self, tokens: &Tokens, at: usize, room: usize) -> Result<Listed<Piece<Expr>>, Stop>
-        requires ready { Ready self.now.bound room (F.pre self.now.expr) (F.post self.now.expr) }
-        requires within { at ≤ length tokens.now }
-        ensures { AnswersPieces room tokens.now at result }
+    fn pieces(&self, at: usize) -> Result<Listed<Piece<Expr>>, Stop>
+        requires within { at ≤ length self.now.reader.tokens.now }
+        ensures { AnswersPieces self.now.reader at result }
     {
-        let mut items = Items::new(self.alloc);
+        let mut items = Items::new(self.reader.alloc);
         let mut next = at;
         loop {
-            match mold_at(tokens, next) {
+            match mold_at(self.reader.tokens, next) {
                 Mold::Bytes => {
-                    items.push(Piece::Bytes(text_at(self.alloc, tokens, next)?))?;
+                    items.push(Piece::Bytes(text_at(
+                        self.reader.alloc,
+                        self.reader.tokens,
+                        next,
+                    )?))?;
                     next += 1;
                 }
                 Mold::Opened => {
-                    let part = self.part(tokens, next, room)?;
+                    let part = self.part(next)?;
                     items.push(part.item)?;
                     next = part.next;
                 }
@@ -69,16 +74,15 @@ impl<F: Fn(Global, &Tokens, usize, u8, usize) -> Result<Read, Stop>> Reader<F> {
     }
 
     /// A text with parts.
-    pub(crate) fn template(&self, tokens: &Tokens, at: usize, room: usize) -> Result<Taken, Stop>
-        requires ready { Ready self.now.bound room (F.pre self.now.expr) (F.post self.now.expr) }
-        requires here { Shows beginning tokens.now at role.at_template }
-        ensures { AnswersLeaf room tokens.now at result }
+    pub(crate) fn template(&self, at: usize) -> Result<Taken, Stop>
+        requires here { Shows beginning self.now.reader.tokens.now at role.at_template }
+        ensures { AnswersLeaf self.now.reader at result }
     {
-        let pieces = self.pieces(tokens, at + 1, room)?;
+        let pieces = self.pieces(at + 1)?;
         Ok(Taken {
             next: pieces.next,
-            expr: templated(spot(tokens, at), pieces.items),
-            edge: 200,
+            expr: templated(spot(self.reader.tokens, at), pieces.items),
+            edge: TOP,
         })
     }
 }

@@ -6,7 +6,7 @@ use Rattle.php_ast.specs.declared.expression.Expr.TheViews.{roll-Expr}
 use Rattle.php_ast.specs.declared.expression.Expr.TheFolds.{ind-Expr}
 use Rattle.php_grammar.specs.expression.Laws.{IsSpelled}
 use Rattle.php_ast.specs.expression.View.{view}
-use Rattle.php_parse_body.specs.Flat.{is_flat}
+use Rattle.php_build.specs.Flat.{is_flat}
 use Rattle.php_parse_body.specs.Exact.{between, IsRead}
 use Rattle.php_parse_body_laws.proofs.Layers.{node_same}
 use Rattle.php_parse_body_laws.proofs.Unview.{close, unview}

@@ -7,7 +7,7 @@ ghost use Rattle.php_token.specs.Token.{Token};
 ghost use Rattle.php_ast.specs.declared.expression.Expr.{Expr};
 ghost use Rattle.php_ast.specs.expression.View.{view};
 ghost use Rattle.php_parse_body.specs.Exact.{IsRead};
-ghost use Rattle.php_parse_body.specs.Flat.{is_flat};
+ghost use Rattle.php_build.specs.Flat.{is_flat};
 
 /// Two flat expressions that stand for one tree of the grammar are the same. So `parse_expr` answers the only flat
 /// expression that its tokens spell: they leave no choice of what its lists of suffixes and of links hold.

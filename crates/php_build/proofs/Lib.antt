@@ -1,0 +1,4 @@
+pub mod Flats
+mod FlatExamples
+pub mod Runs
+pub mod Views

@@ -1,0 +1,4 @@
+// Makes flat trees of expressions from their parts.
+#![tactic(auto)]
+
+pub mod build;

@@ -1,0 +1,13 @@
+// What parsers of tokens share: the tokens and the levels of nesting that are left, what a token is to the grammar, and the ways to stop.
+#![tactic(auto)]
+
+pub mod fail;
+pub mod limit;
+pub mod line;
+pub mod look;
+pub mod reader;
+pub mod sign;
+
+pub use fail::{ParseFail, Stop};
+pub use line::with_line;
+pub use reader::Reader;
