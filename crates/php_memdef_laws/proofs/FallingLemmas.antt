@@ -15,7 +15,7 @@ use Rattle.php_memdef.specs.Numbered.{numbered, with_numbered}
 use Rattle.php_memdef.specs.Contents.{Content, null, truth, int, text, array, object, Item, value, link, Variable, Scope, Mem, no_scope, content_of, scope_of, object_of}
 use Rattle.php_memdef.specs.Copies.{copied, copied_properties, copier_of}
 use Rattle.php_memdef.specs.Places.{Spot, stored, standing, nth_item, with_nth_item, content_at, with_content, with_scope, with_object, with_new_store, new_store_number, variable_store, property_store, temp_spot, base_spot, elements_of, elements_to_write, step_store, step_set, spot_along, find_place, Walk, reached, stopped, element_made, element_to_write, step_in_elements, walk_step, walk_along, variable_to_write, property_to_write, static_to_write, temp_to_write, base_to_write, walk}
-use Rattle.php_memdef.specs.Temporaries.{with_temps, with_falling, pushed, popped, top, with_top, let_fall, fallen, enter, leave, push, push_array, push_object, pass, turn, reserve, drop_top, copy_of_spot, copy, settled, settle}
+use Rattle.php_memdef.specs.Temporaries.{with_temps, with_falling, pushed, popped, top, let_fall, fallen, enter, leave, push, push_array, push_object, pass, turn, reserve, drop_top, copy_of_spot, copy, settled, settle}
 use Rattle.php_memdef.specs.Writes.{moved_in, assigned, assign, append, linked, make_link, Bound, bound, unbound, steps_before, last_step, element_bound, bound_in_elements, element_of_walk_bound, with_variable, base_bound, bound_at, finish_bind, bind_top, bind, without_variable, without_property, variable_removed, property_removed, element_removed, removed_in_elements, removed_at_spot, base_removed, removed_at, unset, last_removed, last_removed_in, last_removed_at, unset_last, forget, shed_first, shed}
 use Rattle.php_memdef.specs.Releases.{entry_links, property_links, Turn, goes_on, stops, link_dropped, object_removed, object_released, handle_dropped, is_held, is_object_held, item_released, first_released, turn as turn_of_release, fall_after, fall_within, turns, fall}
 use Rattle.php_memdef.specs.Objects.{OBJECT_LIMIT, with_new_object, new_object, with_clone, object_made, make_object, clone_made, clone_of_top, clone_object, finish, spare, attach}

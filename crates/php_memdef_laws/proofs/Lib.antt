@@ -13,3 +13,4 @@ pub mod DeciderLemmas
 pub mod DecidedOperations
 pub mod RestLemmas
 pub mod FallingLemmas
+pub mod ObjectLemmas

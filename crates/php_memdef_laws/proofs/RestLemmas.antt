@@ -1,11 +1,11 @@
 -- To be equal at rest is an equivalence, and alike memories are equal at rest.
-use Rattle.std.proofs.Common.{◌≡◌, ℕ, List, [], ◌∷◌, refl, sym, ◌∙◌, ap, subst}
+use Rattle.std.proofs.Common.{◌≡◌, ℕ, List, [], ◌∷◌, refl, sym, ◌∙◌, ap}
 use Rattle.std.specs.Prelude.{Option, Some, None, option_map}
-use Rattle.php_entries.specs.Listing.{Entry, Listing}
+use Rattle.php_entries.specs.Listing.{Entry}
 use Rattle.php_entries.specs.Changes.{map_entries, map_listing}
 use Rattle.php_memdef.specs.Numbered.{numbered}
 use Rattle.php_memdef.specs.Contents.{Content, null, truth, int, text, array, object, Item, value, link, Variable, Scope, Property, Object, Mem}
-use Rattle.php_memdef.specs.Alike.{map_if, renamed_content, renamed_item, renamed_items, renamed_variables, renamed_scope, renamed_properties, renamed_object, Alike}
+use Rattle.php_memdef.specs.Alike.{map_if, renamed_content, renamed_items, renamed_variables, renamed_scope, renamed_properties, renamed_object, Alike}
 use Rattle.php_memdef.specs.Rest.{resting_temps, resting_scope, resting_scope_if, resting, renamed_names, renamed_rest, renamed_frame, Renaming, EqualAtRest}
 use Rattle.php_memdef_laws.proofs.Alike.Memories.{Alike-refl}
 

@@ -2,3 +2,4 @@ pub mod Stops
 pub mod Readings
 pub mod Shapes
 pub mod Falls
+pub mod Lives

@@ -12,6 +12,7 @@ ghost use Rattle.php_memdef.specs.Sound.{IsClosed, IsFormed, IsSound};
 ghost use Rattle.php_memdef.specs.Rest.{EqualAtRest, IsFresh};
 ghost use Rattle.php_memdef.specs.Reading.{Manner, gives, reading};
 ghost use Rattle.php_memdef_laws.specs.Falls.{falls_in};
+ghost use Rattle.php_memdef_laws.specs.Lives.{IsNoRelease, is_object_after};
 ghost use Rattle.php_memdef_laws.specs.Readings.{renamed_reading};
 ghost use Rattle.php_memdef_laws.specs.Shapes.{shape, shape_after};
 ghost use Rattle.php_memdef_laws.specs.Stops.{StopsFor};
@@ -19,7 +20,7 @@ ghost use Rattle.php_memdef.specs.Holders.{vslots};
 ghost use Rattle.php_memdef.specs.Views.{Shows, found, later_entry, is_aliased, is_link, steps_met, end_met, temps_count, cost_of};
 ghost use Rattle.php_memdef.specs.Conditions.{IsBlock, IsObject, IsPlace};
 ghost use Rattle.std.specs.Bool.{Decides};
-ghost use Rattle.php_memdef.specs.Deciders.{can};
+ghost use Rattle.php_memdef.specs.Deciders.{can, is_object};
 ghost use Rattle.php_memdef.specs.Operations.{Operation, Can, run, effect, cost};
 ghost use Rattle.php_memdef.specs.Laws.{AnswersAlike, HoldsAlike, KeepsClosed, KeepsFormed, KeepsHeld, KeepsSound, ShowsAlike};
 ghost use Rattle.php_memdef.specs.Objects as objects;
@@ -91,6 +92,14 @@ pub fn conditions_are_decided()
 pub fn shapes_after()
     ensures { (o : Operation) (m : Mem) → Can o m →
         (c : ℕ) → shape (effect o m) c ≡ shape_after o m c }
+{}
+
+/// Which objects are there after each operation that may be made: the ones before and the one that it
+/// makes. A release takes objects away alone.
+pub fn objects_after()
+    ensures made { (o : Operation) (m : Mem) → IsNoRelease o → Can o m →
+        (h : ℕ) → is_object (effect o m) h ≡ is_object_after o m h }
+    ensures released { (m : Mem) (b h : ℕ) → IsObject (releases.fall m b).0 h → IsObject m h }
 {}
 
 /// What has fallen in a block stays as it is by an operation that lets nothing fall there.
