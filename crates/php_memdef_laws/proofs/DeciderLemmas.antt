@@ -1,8 +1,7 @@
 -- The tests of conditions tell exactly when an operation may be made.
 use Rattle.std.proofs.Common.{◌≡◌, ℕ, zero, suc, ◌<◌, ◌≤◌, ◌^◌, List, [], ◌∷◌, ◌++◌, length, refl, sym, ◌∙◌, ap, arith, inl, inr, nat_lt, nat_le, ℤ, pos, negsuc}
-use Rattle.std.specs.Prelude.{Bool, true, false, ◌&&◌, ◌||◌, not, nat_eq, ◌≢◌, Option, Some, None, is_some, unwrap_or, FitsSigned}
+use Rattle.std.specs.Prelude.{Bool, true, false, ◌&&◌, ◌||◌, not, nat_eq, ◌≢◌, Option, Some, None, is_some, unwrap_or}
 use Rattle.std.specs.Bool.{Decides}
-use Rattle.std.specs.Int.{w64}
 use Rattle.std.proofs.lemmas.Bool.{false≢true, not-true, leb-true, le-leb, ltb-true, lt-ltb, eq-eqb, eqb-true, or_cases, or_left, or_right, not_from_false}
 use Rattle.std.proofs.lemmas.Bool.Decides.{eqb_tells, Decides-like, Decides-and, Decides-not, Decides-ltb}
 use Rattle.php_value.specs.declared.key.Key.{Key}
@@ -16,14 +15,12 @@ use Rattle.php_memdef.specs.declared.place.Step.{Step}
 use Rattle.php_memdef.specs.declared.place.Step.TheVariants.{At, Push}
 use Rattle.php_memdef.specs.declared.place.Place.{Place}
 use Rattle.php_memdef.specs.Numbered.{Numbered, numbered}
-use Rattle.php_memdef.specs.Contents.{Content, null, truth, int, text, array, object, Item, value, link, Variable, Scope, Object, Mem, no_object, scope_of, object_of}
+use Rattle.php_memdef.specs.Contents.{Content, null, truth, int, text, array, object, Item, value, link, Variable, Scope, Object, Mem, no_object, scope_of}
 use Rattle.php_memdef.specs.Places.{nth_item}
-use Rattle.php_memdef.specs.Views.{found, is_link_item}
+use Rattle.php_memdef.specs.Views.{is_link_item}
 use Rattle.php_memdef.specs.Sound.{TEXT_LIMIT, IsInt, IsShort, IsKeyWithin}
-use Rattle.php_memdef.specs.Conditions.{IsBlock, IsObject, HasRoom, HasFallingRoom, HasTemp, HasValueOnTop, HasLinkOnTop, HasHandleOnTop, IsBase, AreStepsWithin, IsPlace, IsBelowTop, HasStep, IsPointed, IsRemovable, IsLinkable, IsScalarWithin}
-use Rattle.php_memdef.specs.Deciders.{is_block, is_object, has_room, has_falling_room, has_temp, is_value_item, is_handle_item, top_item, is_short, is_key_within, are_steps_within, is_scalar_within, is_base, is_place, is_below_top, has_step, is_pointed, is_removable, is_linkable, no_variables, no_items, is_frame, has_frame, is_no_frame, is_no_other_frame, is_free_frame, are_joinable, can}
-use Rattle.php_memdef.specs.Operations.{Operation, Can}
-use Rattle.php_memdef.specs.Operations as op
+use Rattle.php_memdef.specs.Conditions.{HasRoom, HasFallingRoom, HasTemp, IsBase, AreStepsWithin, IsPlace, IsBelowTop, HasStep, IsPointed, IsRemovable, IsLinkable, IsScalarWithin}
+use Rattle.php_memdef.specs.Deciders.{is_block, is_object, has_room, has_falling_room, has_temp, is_value_item, is_handle_item, is_short, is_key_within, are_steps_within, is_scalar_within, is_base, is_place, is_below_top, has_step, is_pointed, is_removable, is_linkable, no_variables, no_items, is_frame, has_frame, is_no_frame, is_no_other_frame, are_joinable, can}
 
 pub flag : (b : Bool) → Decides b (b ≡ true)
 flag b = (λ h. h, λ h. h)

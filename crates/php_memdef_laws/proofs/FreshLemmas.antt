@@ -1,11 +1,11 @@
 -- A memory in which nothing was made yet is sound, and alike to the fresh one.
-use Rattle.std.proofs.Common.{◌≡◌, ℕ, zero, suc, ◌+◌, ◌<◌, ◌≤◌, List, [], ◌∷◌, refl, sym, ◌∙◌, ap, arith}
+use Rattle.std.proofs.Common.{◌≡◌, ℕ, suc, [], ◌∷◌, refl, sym, ◌∙◌, ap, arith}
 use Rattle.std.specs.Prelude.{Option, Some, None, IsSome, is_some, unwrap_or}
 use Rattle.std.proofs.lemmas.Bool.{false≢true}
 use Rattle.php_memdef.specs.Numbered.{Numbered, numbered, weight_if, total}
-use Rattle.php_memdef.specs.Contents.{Content, Scope, Object, Mem, fresh, no_object, object_of}
+use Rattle.php_memdef.specs.Contents.{Mem, fresh, no_object, object_of}
 use Rattle.php_memdef.specs.Holders.{times, handles_of_content, handles_of_scope, object_holders}
-use Rattle.php_memdef.specs.Sound.{Every, IsLive, IsClosed, IsHeld, IsFormed, IsSound}
+use Rattle.php_memdef.specs.Sound.{IsSound}
 use Rattle.php_memdef.specs.Rest.{IsFresh}
 use Rattle.php_memdef.specs.Alike.{Alike}
 

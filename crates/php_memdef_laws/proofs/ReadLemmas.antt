@@ -1,15 +1,13 @@
 -- Reading: alike memories give the same, and what is found is what is read.
-use Rattle.std.proofs.Common.{◌≡◌, ℕ, suc, ◌-◌, List, [], ◌∷◌, length, refl, sym, ◌∙◌, ap, nat_lt}
-use Rattle.std.specs.Prelude.{Bool, true, false, cond, Option, Some, None, ℤ, pos, negsuc, slice_get}
+use Rattle.std.proofs.Common.{◌≡◌, ℕ, ◌-◌, List, [], ◌∷◌, length, refl, sym, ◌∙◌, ap}
+use Rattle.std.specs.Prelude.{Option, Some, None, ℤ}
 use Rattle.php_value.specs.declared.key.Key.{Key}
-use Rattle.php_entries.specs.Listing.{Listing}
-use Rattle.php_entries.specs.Changes.{map_listing}
 use Rattle.php_memdef.specs.declared.place.Step.{Step}
 use Rattle.php_memdef.specs.declared.place.Step.TheVariants.{At, Push}
 use Rattle.php_memdef.specs.declared.place.Place.{Place}
-use Rattle.php_memdef.specs.Contents.{Content, null, truth, int, text, array, object, Mem, content_of}
-use Rattle.php_memdef.specs.Places.{Spot, stored, standing, content_at, elements_of, step_store, step_store_if, stored_if, next_spot, spot_along, base_spot, find_place}
-use Rattle.php_memdef.specs.Reading.{Reading, gives, throws, Manner, loud, quiet, thrown, offset_read, offset_of, byte_read, byte_at, place_of_offset, content_if, element_read, step_read, read_along, content_or_null, reading}
+use Rattle.php_memdef.specs.Contents.{Content, null, truth, int, text, array, object, Mem}
+use Rattle.php_memdef.specs.Places.{Spot, stored, content_at, elements_of, step_store, step_store_if, stored_if, spot_along, base_spot, find_place}
+use Rattle.php_memdef.specs.Reading.{Reading, gives, throws, Manner, loud, quiet, offset_read, offset_of, byte_read, byte_at, place_of_offset, content_if, element_read, step_read, read_along, content_or_null, reading}
 use Rattle.php_memdef.specs.Views.{content_if_found, found}
 use Rattle.php_memdef.specs.Alike.{map_if, renamed_content, IsRenamed}
 use Rattle.php_memdef_laws.specs.Readings.{renamed_reading}

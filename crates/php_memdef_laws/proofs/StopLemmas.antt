@@ -1,14 +1,13 @@
 -- What the answers of a release say of the memory that it leaves.
 use Rattle.std.proofs.Common.{◌≡◌, ℕ, zero, suc, List, [], ◌∷◌, refl, sym, ◌∙◌, ap, inl, inr}
-use Rattle.std.specs.Prelude.{Bool, true, false, ◌&&◌, not, ◌≢◌, Option, Some, None, is_some, unwrap_or}
+use Rattle.std.specs.Prelude.{Bool, true, false, ◌&&◌, not, Option, Some, None, is_some, unwrap_or}
 use Rattle.std.proofs.lemmas.Bool.Decides.{eqb_tells}
 use Rattle.php_memdef.specs.declared.answer.Fallen.{Fallen}
 use Rattle.php_memdef.specs.declared.answer.Fallen.TheVariants.{Nothing, Destroy, Frame as FrameOf}
-use Rattle.php_memdef.specs.Numbered.{numbered, with_numbered}
 use Rattle.php_memdef.specs.Contents.{null, truth, int, text, array, object, Item, value, link, Object, Mem, no_object, scope_of, object_of}
 use Rattle.php_memdef.specs.Places.{with_object}
 use Rattle.php_memdef.specs.Temporaries.{with_falling}
-use Rattle.php_memdef.specs.Releases.{Turn, goes_on, stops, object_removed, object_released, handle_dropped, is_held, is_object_held, item_released, first_released, turn, fall_after, fall_within, turns, fall}
+use Rattle.php_memdef.specs.Releases.{Turn, goes_on, stops, object_removed, object_released, handle_dropped, is_object_held, item_released, first_released, turn, fall_after, fall_within, turns, fall}
 use Rattle.php_memdef.specs.Sound.{IsFormed}
 use Rattle.php_memdef_laws.specs.Stops.{StopsFor}
 use Rattle.php_memdef_laws.proofs.NumberedLemmas.{numbered-with_same, numbered-with_other}

@@ -1,3 +1,5 @@
 pub mod Stops
 pub mod Readings
 pub mod Shapes
+pub mod Falls
+pub mod Lives

@@ -4,7 +4,7 @@ use Rattle.std.specs.Prelude.{Bool, true, false, nat_eq, Option, Some, None}
 use Rattle.php_memdef.specs.declared.place.PropName.{PropName}
 use Rattle.php_memdef.specs.Contents.{null, truth, int, text, array, object, Item, value, link, Variable, Property, Mem, scope_of}
 use Rattle.php_memdef.specs.Places.{nth_item, with_nth_item, variable_store, property_store, prop_name_eq}
-use Rattle.php_memdef.specs.Temporaries.{with_temps, with_falling, pushed, rest_of, popped, top_of, top, with_top, turned, turn, reserve, fallen, let_fall}
+use Rattle.php_memdef.specs.Temporaries.{with_falling, pushed, rest_of, popped, top_of, top, with_top, turned, turn, reserve, fallen, let_fall}
 use Rattle.php_memdef.specs.Writes.{with_variable, with_property, without_variable, without_property, let_fall_if}
 use Rattle.php_memdef.specs.Alike.{map_if, renamed_item, renamed_items, renamed_variables, renamed_scope, renamed_properties, IsRenamed}
 use Rattle.php_memdef_laws.proofs.Alike.Memories.{scope_of-renamed, scope_change-renamed}

@@ -33,7 +33,7 @@ TurnFormed (stops m answer) = IsFormed m
 
 -- an object with a frame, or whose destructor is due, is there
 
-framed_there : (m : Mem) (h f : ℕ) → (object_of m h).frame ≡ Some f → IsObject m h
+pub framed_there : (m : Mem) (h f : ℕ) → (object_of m h).frame ≡ Some f → IsObject m h
 framed_there m h f e = by_cases (numbered m.objects h) e
   where
     by_cases : (o : Option Object) → (unwrap_or o no_object).frame ≡ Some f → IsSome o
@@ -43,7 +43,7 @@ framed_there m h f e = by_cases (numbered m.objects h) e
         no e = cc
     by_cases (Some x) e = refl
 
-due_there : (m : Mem) (h : ℕ) → ((object_of m h).finishing && not (object_of m h).spent) ≡ true → IsObject m h
+pub due_there : (m : Mem) (h : ℕ) → ((object_of m h).finishing && not (object_of m h).spent) ≡ true → IsObject m h
 due_there m h e = by_cases (numbered m.objects h) e
   where
     by_cases : (o : Option Object) → ((unwrap_or o no_object).finishing && not (unwrap_or o no_object).spent) ≡ true → IsSome o

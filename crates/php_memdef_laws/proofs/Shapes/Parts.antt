@@ -1,12 +1,12 @@
 -- What changes of one part of a memory make of the shapes of its blocks.
 use Rattle.std.proofs.Common.{◌≡◌, ℕ, zero, suc, List, [], ◌∷◌, ◌++◌, refl, sym, ◌∙◌, ap, inl, inr, cond}
-use Rattle.std.specs.Prelude.{Bool, true, false, Option, Some, None, is_some, unwrap_or, nat_eq}
+use Rattle.std.specs.Prelude.{true, false, Option, Some, None, is_some, unwrap_or}
 use Rattle.std.proofs.lemmas.Bool.Decides.{eqb_tells}
 use Rattle.php_entries.specs.Listing.{Listing}
 use Rattle.php_memdef.specs.Numbered.{numbered, with_numbered}
-use Rattle.php_memdef.specs.Contents.{Content, null, truth, int, text, array, object, Item, value, link, Variable, Scope, Mem, no_scope, scope_of}
+use Rattle.php_memdef.specs.Contents.{Content, array, Item, value, link, Variable, Scope, Mem, no_scope, scope_of}
 use Rattle.php_memdef.specs.Places.{Spot, stored, standing, nth_item, with_nth_item, content_if, content_at, with_content, with_scope, elements_of}
-use Rattle.php_memdef.specs.Temporaries.{with_temps, with_falling, pushed, rest_of, popped, top_of, top, turned, let_fall}
+use Rattle.php_memdef.specs.Temporaries.{with_temps, with_falling, pushed, rest_of, popped, top_of, turned, let_fall}
 use Rattle.php_memdef.specs.Conditions.{IsBlock}
 use Rattle.php_memdef_laws.specs.Shapes.{is_link_itself, kinds, Shape, shape, with_one, rest_of_kinds, top_of_kinds, without_top, kinds_turned, in_block}
 use Rattle.php_memdef_laws.proofs.NumberedLemmas.{numbered-with_same, numbered-with_other}

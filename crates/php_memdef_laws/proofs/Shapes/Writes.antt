@@ -1,6 +1,6 @@
 -- What writes and removals make of the shapes of blocks.
 use Rattle.std.proofs.Common.{◌≡◌, ℕ, List, [], ◌∷◌, ◌++◌, refl, sym, ◌∙◌, ap, subst}
-use Rattle.std.specs.Prelude.{Bool, true, false, Option, Some, None, IsSome, is_some}
+use Rattle.std.specs.Prelude.{true, false, Option, Some, None, IsSome, is_some}
 use Rattle.std.proofs.lemmas.Bool.{false≢true}
 use Rattle.php_entries.specs.Listing.{Entry, Listing, last_of}
 use Rattle.php_entries.specs.Changes.{Growth, Grown, Full as NoKeyLeft, Limit as NoEntryLeft, remove_key, pop_entry}
@@ -13,12 +13,12 @@ use Rattle.php_memdef.specs.declared.place.Place.{Place}
 use Rattle.php_memdef.specs.declared.answer.Wrote.{Wrote}
 use Rattle.php_memdef.specs.declared.answer.Wrote.TheVariants.{Done, NotArray, Full, Limit}
 use Rattle.php_memdef.specs.Numbered.{numbered}
-use Rattle.php_memdef.specs.Contents.{Content, null, text, array, Item, value, link, Variable, Scope, Mem, scope_of, object_of}
+use Rattle.php_memdef.specs.Contents.{null, array, Item, value, link, Variable, Scope, Mem, scope_of, object_of}
 use Rattle.php_memdef.specs.Places.{Spot, stored, standing, nth_item, content_at, with_content, with_scope, with_object, with_new_store, new_store_number, variable_store, property_store, temp_spot, base_spot, elements_of, elements_to_write, step_store, step_set, spot_along, find_place, Walk, reached, stopped, element_made, element_to_write, step_in_elements, walk_step, walk_along, variable_to_write, property_to_write, static_to_write, temp_to_write, base_to_write, walk}
 use Rattle.php_memdef.specs.Temporaries.{popped, top, let_fall}
-use Rattle.php_memdef.specs.Writes.{moved_in, assigned, assign, linked, make_link, Bound, bound, unbound, steps_before, last_step, element_bound, bound_in_elements, element_of_walk_bound, with_variable, base_bound, bound_at, let_fall_if, finish_bind, bind_top, bind, without_variable, without_property, variable_removed, property_removed, element_removed, removed_in_elements, removed_at_spot, base_removed, removed_at, unset, last_removed, last_removed_in, last_removed_at, unset_last, forget, shed_first, shed}
+use Rattle.php_memdef.specs.Writes.{moved_in, assigned, assign, linked, make_link, Bound, bound, unbound, steps_before, last_step, element_bound, bound_in_elements, element_of_walk_bound, with_variable, base_bound, bound_at, finish_bind, bind_top, bind, without_variable, without_property, variable_removed, property_removed, element_removed, removed_in_elements, removed_at_spot, base_removed, removed_at, unset, last_removed, last_removed_in, last_removed_at, unset_last, forget, shed_first, shed}
 use Rattle.php_memdef.specs.Conditions.{IsBlock, IsBase, IsPlace, IsLinkable, HasValueOnTop, HasLinkOnTop, CanAssign, CanLink, CanBind}
-use Rattle.php_memdef_laws.specs.Shapes.{is_link_itself, kinds, Shape, shape, with_one, top_of_kinds, without_top, if_done, in_block}
+use Rattle.php_memdef_laws.specs.Shapes.{is_link_itself, Shape, shape, with_one, top_of_kinds, without_top, if_done, in_block}
 use Rattle.php_memdef_laws.proofs.NumberedLemmas.{numbered-with_same}
 use Rattle.php_memdef_laws.proofs.AppendLemmas.{first_on_top}
 use Rattle.php_memdef_laws.proofs.Held.Writes.{IsReal, real_kept, nth_some}
