@@ -3,3 +3,4 @@ pub mod Readings
 pub mod Shapes
 pub mod Falls
 pub mod Lives
+pub mod Needs

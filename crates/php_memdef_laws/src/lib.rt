@@ -12,6 +12,7 @@ ghost use Rattle.php_memdef.specs.Sound.{IsClosed, IsFormed, IsSound};
 ghost use Rattle.php_memdef.specs.Rest.{EqualAtRest, IsFresh};
 ghost use Rattle.php_memdef.specs.Reading.{Manner, gives, reading};
 ghost use Rattle.php_memdef_laws.specs.Falls.{falls_in};
+ghost use Rattle.php_memdef_laws.specs.Needs.{Needs};
 ghost use Rattle.php_memdef_laws.specs.Lives.{IsNoRelease, is_object_after};
 ghost use Rattle.php_memdef_laws.specs.Readings.{renamed_reading};
 ghost use Rattle.php_memdef_laws.specs.Shapes.{shape, shape_after};
@@ -77,8 +78,7 @@ pub fn names_respect_alike()
 pub fn operations_keep_sound()
     ensures closed { (o : Operation) → KeepsClosed (effect o) }
     ensures formed { (o : Operation) → KeepsFormed (Can o) (effect o) }
-    ensures held { (o : Operation) →
-        KeepsHeld (λ m. IsClosed m × (IsFormed m × Can o m)) (effect o) }
+    ensures held { (o : Operation) → KeepsHeld (λ m. Needs o m × Can o m) (effect o) }
     ensures sound { (o : Operation) → KeepsSound (Can o) (effect o) }
 {}
 

@@ -10,7 +10,7 @@ pub returns-clause-formed : goal.returns-clause-formed
 returns-clause-formed c = effect-formed
 
 pub returns-clause-held : goal.returns-clause-held
-returns-clause-held c o m held can = effect-held o m held can.0 can.1.0 can.1.1
+returns-clause-held c o m held can = effect-held o m held can.0 can.1
 
 pub returns-clause-sound : goal.returns-clause-sound
 returns-clause-sound c = effect-sound
