@@ -2,8 +2,6 @@
 use Rattle.std.specs.Prelude.{◌≡◌, ◌≢◌, ℕ, ◌<◌, List, [], ◌∷◌, length, Option, Some, IsSome}
 use Rattle.php_value.specs.declared.scalar.Scalar.{Scalar}
 use Rattle.php_value.specs.declared.scalar.Scalar.TheVariants as scalar
-use Rattle.php_entries.specs.Listing.{KEY_LIMIT}
-use Rattle.php_entries.specs.Soundness.{IsKeyBelow}
 use Rattle.php_memdef.specs.declared.place.Base.{Base}
 use Rattle.php_memdef.specs.declared.place.Base.TheVariants.{Var, Property, Static, Temp}
 use Rattle.php_memdef.specs.declared.place.Step.{Step}
@@ -12,7 +10,7 @@ use Rattle.php_memdef.specs.declared.place.Place.{Place}
 use Rattle.php_memdef.specs.Numbered.{numbered}
 use Rattle.php_memdef.specs.Contents.{Content, object, value, link, Mem, scope_of, object_of}
 use Rattle.php_memdef.specs.Places.{nth_item}
-use Rattle.php_memdef.specs.Sound.{IsShort, IsShortKey}
+use Rattle.php_memdef.specs.Sound.{IsInt, IsShort, IsKeyWithin}
 
 abbrev pub IsBlock : Mem → ℕ → Type 0
 IsBlock m b = IsSome (numbered m.blocks b)
@@ -47,13 +45,14 @@ IsBase m (Property h p) = IsObject m h.0 × IsShort p.name
 IsBase m (Static i) = Unit {0}
 IsBase m (Temp b n) = IsBlock m b.0 × (n < length (scope_of m b.0).temps)
 
-abbrev pub AreStepsShort : List Step → Type 0
-AreStepsShort [] = Unit {0}
-AreStepsShort (At k ∷ path) = IsShortKey k × AreStepsShort path
-AreStepsShort (Push ∷ path) = AreStepsShort path
+-- the keys of a path are within their limits
+abbrev pub AreStepsWithin : List Step → Type 0
+AreStepsWithin [] = Unit {0}
+AreStepsWithin (At k ∷ path) = IsKeyWithin k × AreStepsWithin path
+AreStepsWithin (Push ∷ path) = AreStepsWithin path
 
 abbrev pub IsPlace : Mem → Place → Type 0
-IsPlace m p = IsBase m p.base × AreStepsShort p.path
+IsPlace m p = IsBase m p.base × AreStepsWithin p.path
 
 -- the base isn't the top temporary of the block
 abbrev pub IsBelowTop : ℕ → Base → Type 0
@@ -88,11 +87,12 @@ IsLinkable m (Static i) path = Unit {0}
 IsLinkable m (Temp b n) [] = (s : ℕ) × (nth_item (scope_of m b.0).temps n ≡ Some (link s))
 IsLinkable m (Temp b n) (step ∷ path) = Unit {0}
 
-abbrev pub IsShortScalar : Scalar → Type 0
-IsShortScalar scalar.Null = Unit {0}
-IsShortScalar (scalar.Bool b) = Unit {0}
-IsShortScalar (scalar.Int i) = Unit {0}
-IsShortScalar (scalar.Str bytes) = IsShort bytes
+-- what is pushed is within its limits: an int of 64 bits, a string that isn't too long
+abbrev pub IsScalarWithin : Scalar → Type 0
+IsScalarWithin scalar.Null = Unit {0}
+IsScalarWithin (scalar.Bool b) = Unit {0}
+IsScalarWithin (scalar.Int i) = IsInt i
+IsScalarWithin (scalar.Str bytes) = IsShort bytes
 
 -- nothing is left in the block, and no object waits for it
 pub record CanLeave (b : ℕ) (m : Mem) : Type 0 where
@@ -105,7 +105,7 @@ pub record CanLeave (b : ℕ) (m : Mem) : Type 0 where
 pub record CanPush (b : ℕ) (v : Scalar) (m : Mem) : Type 0 where
   pub block : IsBlock m b
   pub room : HasRoom m b
-  pub short : IsShortScalar v
+  pub within : IsScalarWithin v
 
 pub record CanPushArray (b : ℕ) (m : Mem) : Type 0 where
   pub block : IsBlock m b
@@ -182,9 +182,3 @@ pub record CanAttach (h : ℕ) (frame : Option ℕ) (m : Mem) : Type 0 where
   pub object : IsObject m h
   pub frame_live : (b : ℕ) → frame ≡ Some b → IsBlock m b
   pub frame_apart : (b g : ℕ) → frame ≡ Some b → (object_of m g).frame ≡ Some b → g ≡ h
-
--- the int keys of a path are integers of 64 bits, as those of a place in the program always are
-abbrev pub AreKeysWithin : List Step → Type 0
-AreKeysWithin [] = Unit {0}
-AreKeysWithin (At k ∷ path) = IsKeyBelow KEY_LIMIT k × AreKeysWithin path
-AreKeysWithin (Push ∷ path) = AreKeysWithin path

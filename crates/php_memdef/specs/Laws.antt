@@ -2,7 +2,7 @@
 -- in the first of them is there, as in every memory that the operations lead to.
 use Rattle.std.specs.Prelude.{◌≡◌}
 use Rattle.php_memdef.specs.Contents.{Mem}
-use Rattle.php_memdef.specs.Sound.{IsClosed, IsFormed, IsHeld}
+use Rattle.php_memdef.specs.Sound.{IsClosed, IsFormed, IsHeld, IsSound}
 use Rattle.php_memdef.specs.Alike.{Alike}
 
 -- alike memories become alike memories
@@ -32,3 +32,7 @@ KeepsFormed Can op = (m : Mem) → IsFormed m → Can m → IsFormed (op m)
 -- what is there has a holder afterwards too, where the operation may be called
 abbrev pub KeepsHeld : (Mem → Type 0) → (Mem → Mem) → Type 0
 KeepsHeld Can op = (m : Mem) → IsHeld m → Can m → IsHeld (op m)
+
+-- a sound memory stays sound, where the operation may be called
+abbrev pub KeepsSound : (Mem → Type 0) → (Mem → Mem) → Type 0
+KeepsSound Can op = (m : Mem) → IsSound m → Can m → IsSound (op m)

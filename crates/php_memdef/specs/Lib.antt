@@ -15,4 +15,5 @@ pub mod Alike
 pub mod Laws
 pub mod Rest
 pub mod Conditions
+pub mod Operations
 pub mod Meanings

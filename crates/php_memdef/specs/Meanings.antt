@@ -1,8 +1,9 @@
 -- The words in which a call of a memory is described, over the memories that it can be taken for.
-use Rattle.std.specs.Prelude.{◌≡◌, ℕ, ◌+◌, ◌≤◌, Bool, IsTrue, None}
-use Rattle.php_memdef.specs.Numbered.{numbered}
+use Rattle.std.specs.Prelude.{◌≡◌, ℕ, ◌+◌, ◌≤◌, Bool, IsTrue, Option, None}
+use Rattle.php_memdef.specs.declared.answer.NoObject.{NoObject}
+use Rattle.php_memdef.specs.declared.answer.NoObject.TheVariants.{Limit, NoMemory}
 use Rattle.php_memdef.specs.Contents.{Mem}
-use Rattle.php_memdef.specs.Temporaries.{enter}
+use Rattle.php_memdef.specs.Operations.{Can, effect, enter}
 
 -- some memory that is meant has this
 abbrev pub SomeMeant : (Mem → Type 0) → (Mem → Type 0) → Type 0
@@ -20,6 +21,11 @@ Does Old New op = (m : Mem) → Old m → New (op m)
 abbrev pub Answers : {R : Type 0} → (Mem → Type 0) → (Mem → Type 0) → R → (Mem → Mem × R) → Type 0
 Answers Old New r op = (m : Mem) → Old m → New (op m).0 × (r ≡ (op m).1)
 
+-- no object was made: no number is left in any memory that was meant, or memory was wanted
+abbrev pub MakesNone : (Mem → Type 0) → (Mem → Type 0) → NoObject → (Mem → Mem × Option ℕ) → Type 0
+MakesNone Old New Limit op = Answers Old New None op
+MakesNone Old New NoMemory op = Keeps Old New
+
 -- each memory that is meant has this
 abbrev pub EachMeant : (Mem → Type 0) → (Mem → Type 0) → Type 0
 EachMeant Means P = (m : Mem) → Means m → P m
@@ -30,4 +36,4 @@ MakesAtMost frugal Old before after cost = IsTrue frugal → (m : Mem) → Old m
 
 -- a block that no memory that was meant has is made in each of them
 abbrev pub Enters : (Mem → Type 0) → (Mem → Type 0) → ℕ → ℕ → Type 0
-Enters Old New b room = (m : Mem) → Old m → (numbered m.blocks b ≡ None) × New (enter m b room)
+Enters Old New b room = (m : Mem) → Old m → Can (enter b room) m × New (effect (enter b room) m)

@@ -1,5 +1,6 @@
 -- What holds of every memory that the operations lead to.
-use Rattle.std.specs.Prelude.{◌≡◌, ℕ, ◌<◌, ◌≤◌, false, nat_eq, List, [], ◌∷◌, length, Some, IsSome}
+use Rattle.std.specs.Prelude.{◌≡◌, ℕ, ◌<◌, ◌≤◌, false, nat_eq, ℤ, FitsSigned, List, [], ◌∷◌, length, Some, IsSome}
+use Rattle.std.specs.Int.{w64}
 use Rattle.php_value.specs.declared.key.Key.{Key}
 use Rattle.php_value.specs.declared.key.Key.TheVariants.{Int, Str}
 use Rattle.php_entries.specs.Listing.{Entry}
@@ -18,20 +19,25 @@ TEXT_LIMIT = 16777216
 abbrev pub IsShort : List ℕ → Type 0
 IsShort bytes = length bytes ≤ TEXT_LIMIT
 
-abbrev pub IsShortKey : Key → Type 0
-IsShortKey (Int i) = Unit {0}
-IsShortKey (Str bytes) = IsShort bytes
+-- an int of 64 bits
+abbrev pub IsInt : ℤ → Type 0
+IsInt i = FitsSigned w64 i
 
-abbrev pub AreKeysShort : List (Entry ℕ) → Type 0
-AreKeysShort [] = Unit {0}
-AreKeysShort (e ∷ es) = IsShortKey e.key × AreKeysShort es
+-- a key within its limits
+abbrev pub IsKeyWithin : Key → Type 0
+IsKeyWithin (Int i) = IsInt i
+IsKeyWithin (Str bytes) = IsShort bytes
+
+abbrev pub AreKeysWithin : List (Entry ℕ) → Type 0
+AreKeysWithin [] = Unit {0}
+AreKeysWithin (e ∷ es) = IsKeyWithin e.key × AreKeysWithin es
 
 abbrev pub IsSoundContent : Content → Type 0
 IsSoundContent null = Unit {0}
 IsSoundContent (truth b) = Unit {0}
-IsSoundContent (int i) = Unit {0}
+IsSoundContent (int i) = IsInt i
 IsSoundContent (text bytes) = IsShort bytes
-IsSoundContent (array t) = IsSoundListing t × AreKeysShort t.entries
+IsSoundContent (array t) = IsSoundListing t × AreKeysWithin t.entries
 IsSoundContent (object h) = Unit {0}
 
 abbrev pub AreSoundItems : List Item → Type 0

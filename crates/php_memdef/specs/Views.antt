@@ -64,7 +64,3 @@ cost_along m spot (step ∷ path) = 1 + (count_if (elements_if_found (content_if
 
 abbrev pub cost_of : Mem → Place → ℕ
 cost_of m p = cost_along m (base_spot m p.base) p.path
-
--- what doesn't write costs nothing
-abbrev pub nothing : Mem → ℕ
-nothing m = 0

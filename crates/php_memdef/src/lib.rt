@@ -2,14 +2,15 @@
 #![tactic(auto)]
 
 mod answer;
-pub mod laws;
 mod memory;
 mod names;
 mod path;
 mod place;
+mod worked;
 
 pub use answer::{Fallen, NoObject, Peek, Read, Wrote};
 pub use memory::Memory;
 pub use names::{Block, Name, Obj, StaticId};
 pub use path::Path;
 pub use place::{Base, Place, PropName, Seen, Step};
+pub use worked::worked_examples;

@@ -1,21 +1,21 @@
 // What every memory does.
-ghost use Rattle.std.specs.Prelude.{◌≡◌, ◌≤◌, ℕ, Bool, IfOk, OnErr, option_map};
+ghost use Rattle.std.specs.Prelude.{◌≡◌, ◌≤◌, ℕ, Bool, Some, IfOk, IfErr, OnErr, option_copied, option_map};
 ghost use Rattle.php_memdef.specs.Contents.{Mem};
 ghost use Rattle.php_memdef.specs.Holders.{vslots};
-ghost use Rattle.php_memdef.specs.Temporaries as temporaries;
-ghost use Rattle.php_memdef.specs.Writes as writes;
-ghost use Rattle.php_memdef.specs.Releases as releases;
-ghost use Rattle.php_memdef.specs.Views.{Shows, found, later_entry, is_aliased, temps_count, cost_of, nothing};
-ghost use Rattle.php_memdef.specs.Conditions.{IsBlock, IsPlace, CanLeave, CanPush, CanPushArray, CanCopy, CanAssign, CanLink, CanBind, CanSettle, CanPass, CanUnset, CanForget, CanDropTop};
-ghost use Rattle.php_memdef.specs.Meanings.{SomeMeant, EachMeant, Keeps, Does, Answers, Enters, MakesAtMost};
+ghost use Rattle.php_memdef.specs.Objects as objects;
+ghost use Rattle.php_memdef.specs.Views.{Shows, found, later_entry, is_aliased, temps_count};
+ghost use Rattle.php_memdef.specs.Conditions.{IsBlock, IsObject, IsPlace};
+ghost use Rattle.php_memdef.specs.Operations as op;
+ghost use Rattle.php_memdef.specs.Operations.{Can, run, effect, cost};
+ghost use Rattle.php_memdef.specs.Meanings.{SomeMeant, EachMeant, Keeps, Does, Answers, Enters, MakesNone, MakesAtMost};
 
-use crate::answer::{Fallen, Peek, Read, Wrote};
-use crate::names::{Block, Name};
-use crate::place::Place;
+use crate::answer::{Fallen, NoObject, Peek, Read, Wrote};
+use crate::names::{Block, Name, Obj};
+use crate::place::{Place, PropName};
 use php_base::NoMemory;
 use php_value::{Key, Scalar};
 
-/// A memory of variables, temporaries and what they hold.
+/// A memory of variables, temporaries, objects and what they hold.
 ///
 /// Which memory of the model it is can be told only up to the numbers of stores, so it *means* many.
 /// A call may be made where one of them meets its condition; its effect holds of each of them. An
@@ -34,103 +34,151 @@ pub trait Memory {
     fn enter(&mut self, temps: usize) -> Result<Block, NoMemory>
         ensures ok { IfOk result (λ b. Enters (means self.old) (means self.new) b.0 temps) }
         ensures no_memory { OnErr result (Keeps (means self.old) (means self.new)) }
-        ensures made { MakesAtMost frugal (means self.old) (made_of self.old) (made_of self.new) nothing };
+        ensures made { MakesAtMost frugal (means self.old) (made_of self.old) (made_of self.new) (λ m. 0) };
 
     /// Removes an empty block.
     fn leave(&mut self, block: Block)
-        requires { SomeMeant (means self.old) (CanLeave block.0) }
-        ensures effect { Does (means self.old) (means self.new) (λ m. temporaries.leave m block.0) }
-        ensures made { MakesAtMost frugal (means self.old) (made_of self.old) (made_of self.new) nothing };
+        requires { SomeMeant (means self.old) (Can (op.leave block.0)) }
+        ensures effect { Does (means self.old) (means self.new) (effect (op.leave block.0)) }
+        ensures made { MakesAtMost frugal (means self.old) (made_of self.old) (made_of self.new) (cost (op.leave block.0)) };
 
     /// Pushes a temporary.
     fn push(&mut self, block: Block, value: Scalar)
-        requires { SomeMeant (means self.old) (CanPush block.0 value) }
-        ensures effect { Does (means self.old) (means self.new) (λ m. temporaries.push m block.0 value) }
-        ensures made { MakesAtMost frugal (means self.old) (made_of self.old) (made_of self.new) nothing };
+        requires { SomeMeant (means self.old) (Can (op.push block.0 value)) }
+        ensures effect { Does (means self.old) (means self.new) (effect (op.push block.0 value)) }
+        ensures made { MakesAtMost frugal (means self.old) (made_of self.old) (made_of self.new) (cost (op.push block.0 value)) };
 
-    /// Pushes an empty array.
+    /// Pushes an array without elements.
     fn push_array(&mut self, block: Block) -> Result<(), NoMemory>
-        requires { SomeMeant (means self.old) (CanPushArray block.0) }
-        ensures ok { IfOk result (λ _. Does (means self.old) (means self.new) (λ m. temporaries.push_array m block.0)) }
+        requires { SomeMeant (means self.old) (Can (op.push_array block.0)) }
+        ensures ok { IfOk result (λ _. Does (means self.old) (means self.new) (effect (op.push_array block.0))) }
         ensures no_memory { OnErr result (Keeps (means self.old) (means self.new)) }
-        ensures made { MakesAtMost frugal (means self.old) (made_of self.old) (made_of self.new) nothing };
+        ensures made { MakesAtMost frugal (means self.old) (made_of self.old) (made_of self.new) (cost (op.push_array block.0)) };
+
+    /// Pushes the handle of an object.
+    fn push_object(&mut self, block: Block, obj: Obj)
+        requires { SomeMeant (means self.old) (Can (op.push_object block.0 obj.0)) }
+        ensures effect { Does (means self.old) (means self.new) (effect (op.push_object block.0 obj.0)) }
+        ensures made { MakesAtMost frugal (means self.old) (made_of self.old) (made_of self.new) (cost (op.push_object block.0 obj.0)) };
 
     /// Pushes a copy of what the place holds. Where the place is missing nothing is pushed.
     fn copy(&mut self, block: Block, from: &Place) -> Result<Read, NoMemory>
-        requires { SomeMeant (means self.old) (CanCopy block.0 from.now) }
-        ensures ok { IfOk result (λ r. Answers (means self.old) (means self.new) r (λ m. temporaries.copy m block.0 from.now)) }
+        requires { SomeMeant (means self.old) (Can (op.copy block.0 from.now)) }
+        ensures ok { IfOk result (λ r. Answers (means self.old) (means self.new) r (run (op.copy block.0 from.now))) }
         ensures no_memory { OnErr result (Keeps (means self.old) (means self.new)) }
-        ensures made { MakesAtMost frugal (means self.old) (made_of self.old) (made_of self.new) nothing };
+        ensures made { MakesAtMost frugal (means self.old) (made_of self.old) (made_of self.new) (cost (op.copy block.0 from.now)) };
 
     /// Moves the top temporary into the place, and lets what the place held fall. Every answer but
     /// `Done` leaves the temporary where it is.
     fn assign(&mut self, block: Block, to: &Place) -> Result<Wrote, NoMemory>
-        requires { SomeMeant (means self.old) (CanAssign block.0 to.now) }
-        ensures ok { IfOk result (λ r. Answers (means self.old) (means self.new) r (λ m. writes.assign m block.0 to.now)) }
+        requires { SomeMeant (means self.old) (Can (op.assign block.0 to.now)) }
+        ensures ok { IfOk result (λ r. Answers (means self.old) (means self.new) r (run (op.assign block.0 to.now))) }
         ensures no_memory { OnErr result (Keeps (means self.old) (means self.new)) }
-        ensures made { MakesAtMost frugal (means self.old) (made_of self.old) (made_of self.new) (λ m. cost_of m to.now) };
+        ensures made { MakesAtMost frugal (means self.old) (made_of self.old) (made_of self.new) (cost (op.assign block.0 to.now)) };
 
     /// Pushes a link to the place's store.
     fn link(&mut self, block: Block, from: &Place) -> Result<Wrote, NoMemory>
-        requires { SomeMeant (means self.old) (CanLink block.0 from.now) }
-        ensures ok { IfOk result (λ r. Answers (means self.old) (means self.new) r (λ m. writes.make_link m block.0 from.now)) }
+        requires { SomeMeant (means self.old) (Can (op.link block.0 from.now)) }
+        ensures ok { IfOk result (λ r. Answers (means self.old) (means self.new) r (run (op.link block.0 from.now))) }
         ensures no_memory { OnErr result (Keeps (means self.old) (means self.new)) }
-        ensures made { MakesAtMost frugal (means self.old) (made_of self.old) (made_of self.new) (λ m. cost_of m from.now) };
+        ensures made { MakesAtMost frugal (means self.old) (made_of self.old) (made_of self.new) (cost (op.link block.0 from.now)) };
 
     /// Moves the link on top into the place, which points to the link's store from then on. The
     /// store that it pointed to before falls. Every answer but `Done` leaves the link where it is.
     fn bind(&mut self, block: Block, to: &Place) -> Result<Wrote, NoMemory>
-        requires { SomeMeant (means self.old) (CanBind block.0 to.now) }
-        ensures ok { IfOk result (λ r. Answers (means self.old) (means self.new) r (λ m. writes.bind m block.0 to.now)) }
+        requires { SomeMeant (means self.old) (Can (op.bind block.0 to.now)) }
+        ensures ok { IfOk result (λ r. Answers (means self.old) (means self.new) r (run (op.bind block.0 to.now))) }
         ensures no_memory { OnErr result (Keeps (means self.old) (means self.new)) }
-        ensures made { MakesAtMost frugal (means self.old) (made_of self.old) (made_of self.new) (λ m. cost_of m to.now) };
+        ensures made { MakesAtMost frugal (means self.old) (made_of self.old) (made_of self.new) (cost (op.bind block.0 to.now)) };
 
     /// Puts a copy of what its store holds in the place of the link on top, and lets the link fall.
     fn settle(&mut self, block: Block) -> Result<(), NoMemory>
-        requires { SomeMeant (means self.old) (CanSettle block.0) }
-        ensures ok { IfOk result (λ _. Does (means self.old) (means self.new) (λ m. temporaries.settle m block.0)) }
+        requires { SomeMeant (means self.old) (Can (op.settle block.0)) }
+        ensures ok { IfOk result (λ _. Does (means self.old) (means self.new) (effect (op.settle block.0))) }
         ensures no_memory { OnErr result (Keeps (means self.old) (means self.new)) }
-        ensures made { MakesAtMost frugal (means self.old) (made_of self.old) (made_of self.new) nothing };
+        ensures made { MakesAtMost frugal (means self.old) (made_of self.old) (made_of self.new) (cost (op.settle block.0)) };
 
     /// Moves the top temporary of one block to the top of another.
     fn pass(&mut self, from: Block, to: Block)
-        requires { SomeMeant (means self.old) (CanPass from.0 to.0) }
-        ensures effect { Does (means self.old) (means self.new) (λ m. temporaries.pass m from.0 to.0) }
-        ensures made { MakesAtMost frugal (means self.old) (made_of self.old) (made_of self.new) nothing };
+        requires { SomeMeant (means self.old) (Can (op.pass from.0 to.0)) }
+        ensures effect { Does (means self.old) (means self.new) (effect (op.pass from.0 to.0)) }
+        ensures made { MakesAtMost frugal (means self.old) (made_of self.old) (made_of self.new) (cost (op.pass from.0 to.0)) };
 
     /// Removes the variable, property or element at the place, where there is one, and lets its
     /// store fall.
     fn unset(&mut self, block: Block, at: &Place) -> Result<(), NoMemory>
-        requires { SomeMeant (means self.old) (CanUnset block.0 at.now) }
-        ensures ok { IfOk result (λ _. Does (means self.old) (means self.new) (λ m. writes.unset m block.0 at.now)) }
+        requires { SomeMeant (means self.old) (Can (op.unset block.0 at.now)) }
+        ensures ok { IfOk result (λ _. Does (means self.old) (means self.new) (effect (op.unset block.0 at.now))) }
         ensures no_memory { OnErr result (Keeps (means self.old) (means self.new)) }
-        ensures made { MakesAtMost frugal (means self.old) (made_of self.old) (made_of self.new) (λ m. cost_of m at.now) };
+        ensures made { MakesAtMost frugal (means self.old) (made_of self.old) (made_of self.new) (cost (op.unset block.0 at.now)) };
+
+    /// Removes the last element of the array at the place, where there is one, and lets its store
+    /// fall. The array's next key gives back the key that the element had.
+    fn unset_last(&mut self, block: Block, at: &Place) -> Result<(), NoMemory>
+        requires { SomeMeant (means self.old) (Can (op.unset_last block.0 at.now)) }
+        ensures ok { IfOk result (λ _. Does (means self.old) (means self.new) (effect (op.unset_last block.0 at.now))) }
+        ensures no_memory { OnErr result (Keeps (means self.old) (means self.new)) }
+        ensures made { MakesAtMost frugal (means self.old) (made_of self.old) (made_of self.new) (cost (op.unset_last block.0 at.now)) };
 
     /// Removes a variable of the block, where it is there, and lets its store fall.
     fn forget(&mut self, block: Block, name: Name)
-        requires { SomeMeant (means self.old) (CanForget block.0) }
-        ensures effect { Does (means self.old) (means self.new) (λ m. writes.forget m block.0 name.0) }
-        ensures made { MakesAtMost frugal (means self.old) (made_of self.old) (made_of self.new) nothing };
+        requires { SomeMeant (means self.old) (Can (op.forget block.0 name.0)) }
+        ensures effect { Does (means self.old) (means self.new) (effect (op.forget block.0 name.0)) }
+        ensures made { MakesAtMost frugal (means self.old) (made_of self.old) (made_of self.new) (cost (op.forget block.0 name.0)) };
 
     /// Removes the oldest variable of the block and lets its store fall. It answers false exactly
     /// where the block has no variable.
     fn shed(&mut self, block: Block) -> bool
-        requires { SomeMeant (means self.old) (CanForget block.0) }
-        ensures effect { Answers (means self.old) (means self.new) result (λ m. writes.shed m block.0) }
-        ensures made { MakesAtMost frugal (means self.old) (made_of self.old) (made_of self.new) nothing };
+        requires { SomeMeant (means self.old) (Can (op.shed block.0)) }
+        ensures effect { Answers (means self.old) (means self.new) result (run (op.shed block.0)) }
+        ensures made { MakesAtMost frugal (means self.old) (made_of self.old) (made_of self.new) (cost (op.shed block.0)) };
 
     /// Lets the top temporary fall.
     fn drop_top(&mut self, block: Block)
-        requires { SomeMeant (means self.old) (CanDropTop block.0) }
-        ensures effect { Does (means self.old) (means self.new) (λ m. temporaries.drop_top m block.0) }
-        ensures made { MakesAtMost frugal (means self.old) (made_of self.old) (made_of self.new) nothing };
+        requires { SomeMeant (means self.old) (Can (op.drop_top block.0)) }
+        ensures effect { Does (means self.old) (means self.new) (effect (op.drop_top block.0)) }
+        ensures made { MakesAtMost frugal (means self.old) (made_of self.old) (made_of self.new) (cost (op.drop_top block.0)) };
 
     /// Releases what has fallen in the block, first item first, until nothing is left, a destructor
     /// is due or a generator's frame is to be released.
     fn fall(&mut self, block: Block) -> Fallen
-        requires { SomeMeant (means self.old) (λ m. IsBlock m block.0) }
-        ensures effect { Answers (means self.old) (means self.new) result (λ m. releases.fall m block.0) }
-        ensures made { MakesAtMost frugal (means self.old) (made_of self.old) (made_of self.new) nothing };
+        requires { SomeMeant (means self.old) (Can (op.fall block.0)) }
+        ensures effect { Answers (means self.old) (means self.new) result (run (op.fall block.0)) }
+        ensures made { MakesAtMost frugal (means self.old) (made_of self.old) (made_of self.new) (cost (op.fall block.0)) };
+
+    /// Makes an object without properties, whose handle comes on top. It answers `Limit` exactly
+    /// where all object numbers are used up.
+    fn object(&mut self, block: Block, class: u32, finishing: bool) -> Result<Obj, NoObject>
+        requires { SomeMeant (means self.old) (Can (op.make_object block.0 class finishing)) }
+        ensures ok { IfOk result (λ obj. Answers (means self.old) (means self.new) (Some obj.0) (run (op.make_object block.0 class finishing))) }
+        ensures refused { IfErr result (λ why. MakesNone (means self.old) (means self.new) why (run (op.make_object block.0 class finishing))) }
+        ensures made { MakesAtMost frugal (means self.old) (made_of self.old) (made_of self.new) (cost (op.make_object block.0 class finishing)) };
+
+    /// Puts the handle of a clone in the place of the handle on top, which falls. The properties are
+    /// copied as elements of arrays are. It answers `Limit` as `object` does.
+    fn clone_object(&mut self, block: Block) -> Result<Obj, NoObject>
+        requires { SomeMeant (means self.old) (Can (op.clone_object block.0)) }
+        ensures ok { IfOk result (λ obj. Answers (means self.old) (means self.new) (Some obj.0) (run (op.clone_object block.0))) }
+        ensures refused { IfErr result (λ why. MakesNone (means self.old) (means self.new) why (run (op.clone_object block.0))) }
+        ensures made { MakesAtMost frugal (means self.old) (made_of self.old) (made_of self.new) (cost (op.clone_object block.0)) };
+
+    /// The object has a destructor that is to be run from now on.
+    fn finish(&mut self, obj: Obj)
+        requires { SomeMeant (means self.old) (Can (op.finish obj.0)) }
+        ensures effect { Does (means self.old) (means self.new) (effect (op.finish obj.0)) }
+        ensures made { MakesAtMost frugal (means self.old) (made_of self.old) (made_of self.new) (cost (op.finish obj.0)) };
+
+    /// The object's destructor counts as run.
+    fn spare(&mut self, obj: Obj)
+        requires { SomeMeant (means self.old) (Can (op.spare obj.0)) }
+        ensures effect { Does (means self.old) (means self.new) (effect (op.spare obj.0)) }
+        ensures made { MakesAtMost frugal (means self.old) (made_of self.old) (made_of self.new) (cost (op.spare obj.0)) };
+
+    /// The frame of a generator that waits in the object, or none.
+    fn attach(&mut self, obj: Obj, frame: Option<Block>)
+        requires { SomeMeant (means self.old) (Can (op.attach obj.0 (option_map (λ b. b.0) frame))) }
+        ensures effect { Does (means self.old) (means self.new) (effect (op.attach obj.0 (option_map (λ b. b.0) frame))) }
+        ensures made { MakesAtMost frugal (means self.old) (made_of self.old) (made_of self.new) (cost (op.attach obj.0 (option_map (λ b. b.0) frame))) };
 
     /// What the place holds.
     fn peek(&self, at: &Place) -> Peek<'_>
@@ -152,6 +200,21 @@ pub trait Memory {
     fn temps(&self, block: Block) -> usize
         requires { SomeMeant (means self.now) (λ m. IsBlock m block.0) }
         ensures { EachMeant (means self.now) (λ m. result ≡ temps_count m block.0) };
+
+    /// The number of the object's class.
+    fn class_of(&self, obj: Obj) -> u32
+        requires { SomeMeant (means self.now) (λ m. IsObject m obj.0) }
+        ensures { EachMeant (means self.now) (λ m. result ≡ objects.class_of m obj.0) };
+
+    /// The name of the object's property of that place in the order of making, the first one at 0,
+    /// where there are so many.
+    fn prop_at(&self, obj: Obj, place: usize) -> Option<&PropName>
+        requires { SomeMeant (means self.now) (λ m. IsObject m obj.0) }
+        ensures { EachMeant (means self.now) (λ m. option_copied result ≡ objects.property_name m obj.0 place) };
+
+    /// The oldest object whose destructor is to be run and wasn't.
+    fn eldest(&self) -> Option<Obj>
+        ensures { EachMeant (means self.now) (λ m. option_map (λ h. h.0) result ≡ objects.eldest m) };
 
     /// The number of entries of arrays and of properties that stand in it, however they are shared.
     /// It is at most the number that the model's memory has.

@@ -25,7 +25,8 @@ use Rattle.php_memdef.specs.Releases.{fall_within, values_of, turns, fall}
 use Rattle.php_memdef.specs.Views.{content_if_found, found, elements_if_found, entry_if_later, later_entry, is_spot_shared, is_aliased}
 use Rattle.php_memdef.specs.Holders.{times, stores_of_content, stores_of_items, stores_of_scope, holders}
 use Rattle.php_memdef.specs.declared.names.StaticId.{StaticId}
-use Rattle.php_memdef.specs.Conditions.{IsBlock, HasRoom, HasFallingRoom, HasTemp, HasValueOnTop}
+use Rattle.php_memdef.specs.Objects.{eldest}
+use Rattle.php_memdef.specs.Conditions.{IsBlock, IsObject, HasRoom, HasFallingRoom, HasTemp, HasValueOnTop}
 use Rattle.php_memdef_callers.specs.declared.cells.Held.{Held}
 use Rattle.php_memdef_callers.specs.declared.cells.Held.TheVariants.{Value, Array}
 use Rattle.php_memdef_callers.specs.OneBlock.{content_of_held, item_of_held, fallen_arrays, stored_contents, numbers_from, view_of, fallen_with, held_of}
@@ -36,6 +37,14 @@ pub the_block : (o : Bool) (r : ℕ) (ts : List Held) (k : ℕ) (hs : List Held)
 the_block true r ts k hs zero h = (refl, refl)
 the_block false r ts k hs zero h = absurd (false≢true h)
 the_block o r ts k hs (suc b) h = absurd (false≢true h)
+
+-- there are no objects
+
+pub no_object : (o : Bool) (r : ℕ) (ts : List Held) (k : ℕ) (hs : List Held) (h : ℕ) (m : Mem) → m ≡ view_of o r ts k hs → IsObject m h → ⊥
+no_object o r ts k hs h m e there = false≢true (subst (λ (n : Mem). IsObject n h) e there)
+
+pub no_eldest : (o : Bool) (r : ℕ) (ts : List Held) (k : ℕ) (hs : List Held) (m : Mem) → m ≡ view_of o r ts k hs → eldest m ≡ None
+no_eldest o r ts k hs m e = ap eldest e
 
 module _ (r : ℕ) (ts : List Held) (k : ℕ) (hs : List Held) where
   pub entered : (room : ℕ) → enter (view_of false r ts k hs) 0 room ≡ view_of true room [] 0 hs

@@ -1,16 +1,16 @@
 -- A small memory as the callers are run over it.
-use Rattle.std.proofs.Common.{◌≡◌, ℕ, List, [], ◌∷◌, refl, sym, ◌∙◌, ap, subst, arith, true, false, pos}
-use Rattle.std.specs.Prelude.{Bool, is_some, Some}
+use Rattle.std.proofs.Common.{◌≡◌, ℕ, zero, suc, List, [], ◌∷◌, refl, sym, ◌∙◌, ap, subst, arith, true, false, pos}
+use Rattle.std.specs.Prelude.{Bool, Option, is_some, Some}
 use Rattle.php_value.specs.declared.scalar.Scalar.TheVariants.{Null, Int}
 use Rattle.php_memdef.specs.declared.place.Base.TheVariants.{Static}
 use Rattle.php_memdef.specs.declared.place.Place.{Place}
-use Rattle.php_memdef.specs.Contents.{Mem, int, null, no_scope}
+use Rattle.php_memdef.specs.Contents.{Scope, Mem, int, null, no_scope}
+use Rattle.php_memdef.specs.Numbered.{Numbered, numbered, with_numbered}
 use Rattle.php_memdef.specs.Copies.{copied}
 use Rattle.php_memdef.specs.Places.{find_place, walk}
 use Rattle.php_memdef.specs.Temporaries.{enter, push, copy}
 use Rattle.php_memdef.specs.Writes.{assign}
 use Rattle.php_memdef.specs.Conditions.{IsBlock}
-use Rattle.php_memdef.proofs.NumberedLemmas.{numbered-with_same}
 use Rattle.php_memdef_callers.specs.declared.cells.Held.{Held}
 use Rattle.php_memdef_callers.specs.declared.cells.Held.TheVariants.{Value}
 use Rattle.php_memdef_callers.specs.OneBlock.{view_of}
@@ -31,9 +31,15 @@ with_seven = view_of true 4 (Value (Int (pos 7)) ∷ []) 0 (Value (Int (pos 7)) 
 abbrev pub with_null : Mem
 with_null = view_of true 4 (Value (Int (pos 7)) ∷ []) 0 (Value Null ∷ [])
 
+same_number : (xs : Numbered Scope) (n : ℕ) (y : Option Scope) → numbered (with_numbered xs n y) n ≡ y
+same_number [] zero y = refl
+same_number [] (suc n) y = same_number [] n y
+same_number (x ∷ xs) zero y = refl
+same_number (x ∷ xs) (suc n) y = same_number xs n y
+
 entered_live : (b : ℕ) → IsBlock (enter (view_of false 0 [] 0 []) b 4) b
 unfolding enter
-entered_live b = ap is_some (numbered-with_same (view_of false 0 [] 0 []).blocks b (Some (record no_scope { room = 4 })))
+entered_live b = ap is_some (same_number (view_of false 0 [] 0 []).blocks b (Some (record no_scope { room = 4 })))
 
 entered_first : enter (view_of false 0 [] 0 []) 0 4 ≡ view_of true 4 [] 0 []
 unfolding enter
@@ -48,7 +54,7 @@ opened_view o r ts k hs m b d e =
 seven_can : CanAssignAndRead 0 (Int (pos 7)) (static_at 0) at_first
 unfolding copied find_place walk push copy assign
 seven_can = record {
-  push = record { block = refl; room = omega arith; short = tt };
+  push = record { block = refl; room = omega arith; within = record { sfits = omega arith } };
   assign = record { block = refl; top = (int (pos 7), refl); place = (tt, tt); below_top = tt };
   copy = record { block = refl; room = omega arith; place = (tt, tt) };
 }
@@ -60,7 +66,7 @@ seven_is = refl
 null_can : CanAssignOrDrop 0 Null (static_at 0) with_seven
 unfolding copied find_place walk push copy assign
 null_can = record {
-  push = record { block = refl; room = omega arith; short = tt };
+  push = record { block = refl; room = omega arith; within = tt };
   assign = record { block = refl; top = (null, refl); place = (tt, tt); below_top = tt };
   drop = record { block = refl; top = omega arith; falling_room = omega arith };
 }
@@ -72,7 +78,7 @@ null_is = refl
 three_can : CanAssignAndRead 0 (Int (pos 3)) (static_at 1) with_null
 unfolding copied find_place walk push copy assign
 three_can = record {
-  push = record { block = refl; room = omega arith; short = tt };
+  push = record { block = refl; room = omega arith; within = record { sfits = omega arith } };
   assign = record { block = refl; top = (int (pos 3), refl); place = (tt, tt); below_top = tt };
   copy = record { block = refl; room = omega arith; place = (tt, tt) };
 }

@@ -5,12 +5,15 @@ use Rattle.php_value.specs.declared.scalar.Scalar.TheVariants.{Int}
 use Rattle.php_entries.specs.Listing.{count_of}
 use Rattle.php_memdef.specs.declared.place.Place.{Place}
 use Rattle.php_memdef.specs.declared.answer.Read.{Read}
+use Rattle.php_memdef.specs.declared.answer.Fallen.{Fallen}
 use Rattle.php_memdef.specs.declared.answer.Wrote.{Wrote}
 use Rattle.php_memdef.specs.declared.answer.Wrote.TheVariants.{Done, NotArray, Full, Limit}
 use Rattle.php_memdef.specs.Contents.{Content, null, truth, int, text, array, object, Mem}
 use Rattle.php_memdef.specs.Temporaries as temporaries
 use Rattle.php_memdef.specs.Writes as writes
-use Rattle.php_memdef.specs.Conditions.{CanPush, CanAssign, CanCopy, CanDropTop}
+use Rattle.php_memdef.specs.Releases.{fall}
+use Rattle.php_memdef.specs.Objects.{make_object}
+use Rattle.php_memdef.specs.Conditions.{IsBlock, CanPush, CanAssign, CanCopy, CanDropTop, CanMakeObject}
 use Rattle.php_memdef_callers.specs.declared.callers.Setting.{Setting}
 
 abbrev pub assigned : Mem → ℕ → Scalar → Place → Mem × Wrote
@@ -50,6 +53,15 @@ pub record CanAssignOrDrop (b : ℕ) (v : Scalar) (to : Place) (m : Mem) : Type 
 abbrev pub CanAssignAll : ℕ → List Setting → Mem → Type 0
 CanAssignAll b [] m = Unit {0}
 CanAssignAll b (s ∷ ss) m = CanAssignAndRead b (Int s.number) s.place m × CanAssignAll b ss (assigned_and_read m b (Int s.number) s.place).0
+
+-- an object with a destructor is made, its handle falls, and what has fallen is released
+abbrev pub made_and_dropped : Mem → ℕ → ℕ → Mem × Fallen
+made_and_dropped m b class = fall (temporaries.drop_top (make_object m b class true).0 b) b
+
+pub record CanMakeAndDrop (b class : ℕ) (m : Mem) : Type 0 where
+  pub make : CanMakeObject b m
+  pub drop : CanDropTop b (make_object m b class true).0
+  pub fall : IsBlock (temporaries.drop_top (make_object m b class true).0 b) b
 
 abbrev pub entries_of : Option Content → Option ℕ
 entries_of None = None

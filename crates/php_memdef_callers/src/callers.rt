@@ -2,12 +2,13 @@
 ghost use Rattle.std.specs.Prelude.{◌≡◌, IfOk};
 ghost use Rattle.php_value.specs.declared.scalar.Scalar.TheVariants.{Int};
 ghost use Rattle.php_memdef.specs.Meanings.{SomeMeant, EachMeant, Does, Answers};
-ghost use Rattle.php_memdef.specs.Conditions.{IsPlace};
+ghost use Rattle.php_memdef.specs.Conditions.{IsPlace, CanPushArray};
+ghost use Rattle.php_memdef.specs.Temporaries as temporaries;
 ghost use Rattle.php_memdef.specs.Views.{found};
-ghost use Rattle.php_memdef_callers.specs.Assignments.{assigned_and_read, assigned_or_dropped, all_assigned, CanAssignAndRead, CanAssignOrDrop, CanAssignAll, entries_of};
+ghost use Rattle.php_memdef_callers.specs.Assignments.{assigned_and_read, assigned_or_dropped, all_assigned, made_and_dropped, CanAssignAndRead, CanAssignOrDrop, CanAssignAll, CanMakeAndDrop, entries_of};
 
 use php_base::NoMemory;
-use php_memdef::{Block, Memory, Peek, Place, Read, Wrote};
+use php_memdef::{Block, Fallen, Memory, NoObject, Peek, Place, Read, Wrote};
 use php_value::Scalar;
 
 /// Assigns a value to a place, and pushes a copy of what stands there then. A value that can't be
@@ -45,6 +46,29 @@ pub fn assign_or_drop<M: Memory>(
             Ok(false)
         }
     }
+}
+
+/// Pushes an int. Any `i64` is one that a memory takes.
+pub fn push_number<M: Memory>(memory: &mut M, block: Block, number: i64)
+    requires { SomeMeant (M.means memory.old) (CanPushArray block.0) }
+    ensures { Does (M.means memory.old) (M.means memory.new) (λ m. temporaries.push m block.0 (Int number)) }
+{
+    memory.push(block, Scalar::Int(number));
+}
+
+/// Makes an object whose destructor is to be run and lets its only handle fall. It answers what the
+/// release of it stops for.
+pub fn object_dropped<M: Memory>(
+    memory: &mut M,
+    block: Block,
+    class: u32,
+) -> Result<Fallen, NoObject>
+    requires { SomeMeant (M.means memory.old) (CanMakeAndDrop block.0 class) }
+    ensures { IfOk result (λ r. Answers (M.means memory.old) (M.means memory.new) r (λ m. made_and_dropped m block.0 class)) }
+{
+    memory.object(block, class, true)?;
+    memory.drop_top(block);
+    Ok(memory.fall(block))
 }
 
 /// A place and the int that it is to hold.

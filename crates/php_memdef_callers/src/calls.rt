@@ -1,7 +1,9 @@
 // The calls of the small memory.
 use crate::cells::{Held, OneBlock};
 use php_base::NoMemory;
-use php_memdef::{Base, Block, Fallen, Memory, Name, Peek, Place, Read, Wrote};
+use php_memdef::{
+    Base, Block, Fallen, Memory, Name, NoObject, Obj, Peek, Place, PropName, Read, Wrote,
+};
 use php_value::{Key, Scalar};
 
 impl Memory for OneBlock {
@@ -34,6 +36,9 @@ impl Memory for OneBlock {
         self.push_held(Held::Array);
         Ok(())
     }
+
+    // There are no objects.
+    fn push_object(&mut self, _block: Block, _obj: Obj) {}
 
     fn copy(&mut self, _block: Block, from: &Place) -> Result<Read, NoMemory> {
         match self.held_copy(from)? {
@@ -83,6 +88,10 @@ impl Memory for OneBlock {
         Err(NoMemory)
     }
 
+    fn unset_last(&mut self, _block: Block, _at: &Place) -> Result<(), NoMemory> {
+        Err(NoMemory)
+    }
+
     // There are no variables.
     fn forget(&mut self, _block: Block, _name: Name) {}
 
@@ -99,6 +108,20 @@ impl Memory for OneBlock {
         self.release();
         Fallen::Nothing
     }
+
+    fn object(&mut self, _block: Block, _class: u32, _finishing: bool) -> Result<Obj, NoObject> {
+        Err(NoObject::NoMemory)
+    }
+
+    fn clone_object(&mut self, _block: Block) -> Result<Obj, NoObject> {
+        Err(NoObject::NoMemory)
+    }
+
+    fn finish(&mut self, _obj: Obj) {}
+
+    fn spare(&mut self, _obj: Obj) {}
+
+    fn attach(&mut self, _obj: Obj, _frame: Option<Block>) {}
 
     fn peek(&self, at: &Place) -> Peek<'_> {
         match self.held(at) {
@@ -117,6 +140,18 @@ impl Memory for OneBlock {
 
     fn temps(&self, _block: Block) -> usize {
         self.temps.len()
+    }
+
+    fn class_of(&self, _obj: Obj) -> u32 {
+        0
+    }
+
+    fn prop_at(&self, _obj: Obj, _place: usize) -> Option<&PropName> {
+        None
+    }
+
+    fn eldest(&self) -> Option<Obj> {
+        None
     }
 
     fn slots(&self) -> u64 {

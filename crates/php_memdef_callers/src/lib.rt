@@ -10,6 +10,8 @@ mod one_block;
 mod tests;
 mod witnesses;
 
-pub use callers::{Setting, assign_all, assign_and_read, assign_or_drop, entries_at};
+pub use callers::{
+    Setting, assign_all, assign_and_read, assign_or_drop, entries_at, object_dropped, push_number,
+};
 pub use cells::OneBlock;
-pub use witnesses::other_calls_can_be_made;
+pub use witnesses::{object_calls_can_be_made, other_calls_can_be_made};
