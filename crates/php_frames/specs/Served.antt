@@ -2,7 +2,7 @@
 use Rattle.std.specs.Prelude.{◌≡◌, ℕ, suc, ◌<◌, ◌≤◌, nat_le, nat_lt, Bool, true, false, ◌&&◌, cond, List, [], ◌∷◌, Option, Some, None, slice_get, IsTrue}
 use Rattle.std.proofs.Common.{◌⊎◌}
 use Rattle.php_frames.specs.declared.completion.Completion.{Completion}
-use Rattle.php_frames.specs.declared.completion.Completion.TheVariants.{Normal, Break, Continue, Return, Throw, Exit}
+use Rattle.php_frames.specs.declared.completion.Completion.TheVariants.{Break, Continue, Return, Throw}
 use Rattle.php_frames.specs.declared.ranges.Serves.{Serves}
 use Rattle.php_frames.specs.declared.ranges.Serves.TheVariants.{Loop, Switch, Catch, Finally}
 use Rattle.php_frames.specs.declared.ranges.HandlerRange.{HandlerRange}

@@ -1,0 +1,5 @@
+pub mod Examples
+pub mod TestLemmas
+pub mod EvenLemmas
+pub mod OutputRules
+pub mod AllowanceRules
