@@ -1,5 +1,5 @@
 -- When each call of a memory may be made.
-use Rattle.std.specs.Prelude.{◌≡◌, ◌≢◌, ℕ, ◌<◌, List, [], ◌∷◌, length, Option, Some, IsSome}
+use Rattle.std.specs.Prelude.{◌≡◌, ◌≢◌, ℕ, ◌<◌, ◌≤◌, List, [], ◌∷◌, ◌++◌, length, Option, Some, IsSome}
 use Rattle.php_value.specs.declared.scalar.Scalar.{Scalar}
 use Rattle.php_value.specs.declared.scalar.Scalar.TheVariants as scalar
 use Rattle.php_memdef.specs.declared.place.Base.{Base}
@@ -8,8 +8,9 @@ use Rattle.php_memdef.specs.declared.place.Step.{Step}
 use Rattle.php_memdef.specs.declared.place.Step.TheVariants.{At, Push}
 use Rattle.php_memdef.specs.declared.place.Place.{Place}
 use Rattle.php_memdef.specs.Numbered.{numbered}
-use Rattle.php_memdef.specs.Contents.{Content, object, value, link, Mem, scope_of, object_of}
+use Rattle.php_memdef.specs.Contents.{Content, text, object, value, link, Mem, scope_of, object_of}
 use Rattle.php_memdef.specs.Places.{nth_item}
+use Rattle.php_memdef.specs.Views.{found}
 use Rattle.php_memdef.specs.Sound.{IsInt, IsShort, IsKeyWithin}
 
 abbrev pub IsBlock : Mem → ℕ → Type 0
@@ -139,6 +140,22 @@ pub record CanSettle (b : ℕ) (m : Mem) : Type 0 where
   pub block : IsBlock m b
   pub top : HasLinkOnTop m b
   pub falling_room : HasFallingRoom m b
+
+-- so many temporaries are there
+pub record CanTurn (b n : ℕ) (m : Mem) : Type 0 where
+  pub block : IsBlock m b
+  pub enough : n ≤ length (scope_of m b).temps
+
+-- a text stands at the place and one on top, and both together aren't too long
+pub record CanAppend (b : ℕ) (to : Place) (m : Mem) : Type 0 where
+  pub block : IsBlock m b
+  pub place : IsPlace m to
+  pub below_top : IsBelowTop b to.base
+  pub before : List ℕ
+  pub behind : List ℕ
+  pub there : found m to ≡ Some (text before)
+  pub top : nth_item (scope_of m b).temps 0 ≡ Some (value (text behind))
+  pub short : IsShort (before ++ behind)
 
 pub record CanPass (from to : ℕ) (m : Mem) : Type 0 where
   pub from_block : IsBlock m from

@@ -17,3 +17,5 @@ pub mod Rest
 pub mod Conditions
 pub mod Operations
 pub mod Meanings
+pub mod ExamplesOfCalls
+pub mod Deciders

@@ -15,7 +15,7 @@ use Rattle.php_memdef.specs.Writes as writes
 use Rattle.php_memdef.specs.Releases as releases
 use Rattle.php_memdef.specs.Objects as objects
 use Rattle.php_memdef.specs.Views.{found, elements_if_found, cost_of}
-use Rattle.php_memdef.specs.Conditions.{IsBlock, IsObject, CanLeave, CanPush, CanPushArray, CanPushObject, CanCopy, CanAssign, CanLink, CanBind, CanSettle, CanPass, CanUnset, CanUnsetLast, CanForget, CanDropTop, CanMakeObject, CanClone, CanAttach}
+use Rattle.php_memdef.specs.Conditions.{IsBlock, IsObject, CanLeave, CanPush, CanPushArray, CanPushObject, CanCopy, CanAssign, CanLink, CanBind, CanSettle, CanPass, CanTurn, CanAppend, CanUnset, CanUnsetLast, CanForget, CanDropTop, CanMakeObject, CanClone, CanAttach}
 
 -- an operation with its arguments: b is the block in which it is made, h an object
 pub data Operation : Type 0 where
@@ -30,6 +30,9 @@ pub data Operation : Type 0 where
   bind : (b : ℕ) (to : Place) → Operation
   settle : (b : ℕ) → Operation
   pass : (from to : ℕ) → Operation
+  turn : (b n : ℕ) → Operation
+  reserve : (b n : ℕ) → Operation
+  append : (b : ℕ) (to : Place) → Operation
   unset : (b : ℕ) (at : Place) → Operation
   unset_last : (b : ℕ) (at : Place) → Operation
   forget : (b name : ℕ) → Operation
@@ -55,6 +58,9 @@ Can (link b from) m = CanLink b from m
 Can (bind b to) m = CanBind b to m
 Can (settle b) m = CanSettle b m
 Can (pass from to) m = CanPass from to m
+Can (turn b n) m = CanTurn b n m
+Can (reserve b n) m = IsBlock m b
+Can (append b to) m = CanAppend b to m
 Can (unset b at) m = CanUnset b at m
 Can (unset_last b at) m = CanUnsetLast b at m
 Can (forget b name) m = CanForget b m
@@ -80,6 +86,9 @@ Answer (link b from) = Wrote
 Answer (bind b to) = Wrote
 Answer (settle b) = Unit {0}
 Answer (pass from to) = Unit {0}
+Answer (turn b n) = Unit {0}
+Answer (reserve b n) = Unit {0}
+Answer (append b to) = Unit {0}
 Answer (unset b at) = Unit {0}
 Answer (unset_last b at) = Unit {0}
 Answer (forget b name) = Unit {0}
@@ -105,6 +114,9 @@ run (link b from) m = writes.make_link m b from
 run (bind b to) m = writes.bind m b to
 run (settle b) m = (temporaries.settle m b, tt)
 run (pass from to) m = (temporaries.pass m from to, tt)
+run (turn b n) m = (temporaries.turn m b n, tt)
+run (reserve b n) m = (temporaries.reserve m b n, tt)
+run (append b to) m = (writes.append m b to, tt)
 run (unset b at) m = (writes.unset m b at, tt)
 run (unset_last b at) m = (writes.unset_last m b at, tt)
 run (forget b name) m = (writes.forget m b name, tt)
@@ -146,6 +158,7 @@ abbrev pub cost : Operation → Mem → ℕ
 cost (assign b to) m = cost_if_done (writes.assign m b to).1 (cost_of m to)
 cost (link b from) m = cost_if_done (writes.make_link m b from).1 (cost_of m from)
 cost (bind b to) m = cost_if_done (writes.bind m b to).1 (cost_of m to)
+cost (append b to) m = cost_of m to
 cost (unset b at) m = cost_of m at
 cost (unset_last b at) m = cost_of_last_if (elements_if_found (found m at)) m at
 cost _ m = 0

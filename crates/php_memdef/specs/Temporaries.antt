@@ -1,5 +1,5 @@
 -- The operations on blocks and on their temporaries.
-use Rattle.std.specs.Prelude.{ℕ, List, [], ◌∷◌, ◌++◌, Option, Some, None}
+use Rattle.std.specs.Prelude.{ℕ, zero, suc, ◌+◌, List, [], ◌∷◌, ◌++◌, Option, Some, None}
 use Rattle.php_entries.specs.Listing.{no_entries}
 use Rattle.php_value.specs.declared.scalar.Scalar.{Scalar}
 use Rattle.php_value.specs.declared.scalar.Scalar.TheVariants as scalar
@@ -43,6 +43,10 @@ top_of (i ∷ is) = i
 abbrev pub top : Mem → ℕ → Item
 top m b = top_of (scope_of m b).temps
 
+-- the memory with another item on top
+abbrev pub with_top : Mem → ℕ → Item → Mem
+with_top m b i = with_temps m b (i ∷ rest_of (scope_of m b).temps)
+
 -- what falls, as a list: a null, a bool, an int or a string is dropped at once
 abbrev pub fallen : Item → List Item
 fallen (link s) = link s ∷ []
@@ -76,6 +80,21 @@ push_object m b h = pushed m b (value (object h))
 -- the top temporary moves from one block to another
 unfoldable pub pass : Mem → ℕ → ℕ → Mem
 pass m from to = pushed (popped m from) to (top m from)
+
+-- the first n items of a list in reverse order, and the rest behind them; `before` are those that were
+-- turned already
+abbrev pub turned : ℕ → List Item → List Item → List Item
+turned zero is before = before ++ is
+turned (suc n) [] before = before
+turned (suc n) (i ∷ is) before = turned n is (i ∷ before)
+
+-- the n top temporaries come in reverse order
+unfoldable pub turn : Mem → ℕ → ℕ → Mem
+turn m b n = with_temps m b (turned n (scope_of m b).temps [])
+
+-- room for n more temporaries and falling items
+unfoldable pub reserve : Mem → ℕ → ℕ → Mem
+reserve m b n = with_scope m b (record (scope_of m b) { room = (scope_of m b).room + n })
 
 unfoldable pub drop_top : Mem → ℕ → Mem
 drop_top m b = let_fall (popped m b) b (top m b)

@@ -1,14 +1,14 @@
 -- What a memory shows without being changed.
-use Rattle.std.specs.Prelude.{◌≡◌, ℕ, ◌+◌, Bool, false, List, [], ◌∷◌, length, Option, Some, None, option_map}
+use Rattle.std.specs.Prelude.{◌≡◌, ℕ, suc, ◌+◌, Bool, true, false, List, [], ◌∷◌, length, Option, Some, None, option_map}
 use Rattle.php_value.specs.declared.key.Key.{Key}
 use Rattle.php_entries.specs.Listing.{Entry, Listing, count_of, entry_after}
 use Rattle.php_memdef.specs.declared.place.Step.{Step}
 use Rattle.php_memdef.specs.declared.place.Place.{Place}
 use Rattle.php_memdef.specs.declared.answer.Peek.{Peek}
 use Rattle.php_memdef.specs.declared.answer.Peek.TheVariants.{Absent, Null, Bool as Truth, Int, Str, Arr, Obj}
-use Rattle.php_memdef.specs.Contents.{Content, null, truth, int, text, array, object, Mem, scope_of}
+use Rattle.php_memdef.specs.Contents.{Content, null, truth, int, text, array, object, Item, value, link, Mem, scope_of}
 use Rattle.php_memdef.specs.Holders.{is_shared}
-use Rattle.php_memdef.specs.Places.{Spot, stored, standing, content_at, elements_of, next_spot, base_spot, find_place}
+use Rattle.php_memdef.specs.Places.{Spot, stored, standing, nth_item, content_at, elements_of, next_spot, base_spot, find_place}
 
 abbrev pub content_if_found : Mem → Option Spot → Option Content
 content_if_found m None = None
@@ -51,6 +51,44 @@ is_aliased m p = is_spot_shared m (find_place m p)
 
 abbrev pub temps_count : Mem → ℕ → ℕ
 temps_count m b = length (scope_of m b).temps
+
+abbrev pub is_link_item : Option Item → Bool
+is_link_item None = false
+is_link_item (Some (value c)) = false
+is_link_item (Some (link s)) = true
+
+-- the n-th temporary is there and is a link
+abbrev pub is_link : Mem → ℕ → ℕ → Bool
+is_link m b n = is_link_item (nth_item (scope_of m b).temps n)
+
+-- how far a path leads
+
+abbrev pub counted_if : Option Spot → ℕ → ℕ
+counted_if None n = 0
+counted_if (Some spot) n = suc n
+
+-- how many steps of a path lead somewhere
+abbrev pub steps_along : Mem → Option Spot → List Step → ℕ
+steps_along m spot [] = 0
+steps_along m spot (step ∷ path) = counted_if (next_spot m spot step) (steps_along m (next_spot m spot step) path)
+
+abbrev pub spot_or : Option Spot → Option Spot → Option Spot
+spot_or None before = before
+spot_or (Some spot) before = Some spot
+
+-- where the last of them leads
+abbrev pub end_along : Mem → Option Spot → List Step → Option Spot
+end_along m spot [] = spot
+end_along m spot (step ∷ path) = spot_or (end_along m (next_spot m spot step) path) spot
+
+-- how many steps lead somewhere from a place's base, and what stands where they end; nothing does
+-- where the base is missing
+
+abbrev pub steps_met : Mem → Place → ℕ
+steps_met m p = steps_along m (base_spot m p.base) p.path
+
+abbrev pub end_met : Mem → Place → Option Content
+end_met m p = content_if_found m (end_along m (base_spot m p.base) p.path)
 
 -- what a write along a path costs at most: its steps, and the entries of the arrays that it meets
 

@@ -1,5 +1,5 @@
 -- The operations that write, bind and remove places.
-use Rattle.std.specs.Prelude.{ℕ, Bool, true, false, cond, nat_eq, List, [], ◌∷◌, Option, Some, None}
+use Rattle.std.specs.Prelude.{ℕ, Bool, true, false, cond, nat_eq, List, [], ◌∷◌, ◌++◌, Option, Some, None}
 use Rattle.php_entries.specs.Listing.{Entry, Listing, last_of}
 use Rattle.php_entries.specs.Changes.{Growth, Grown, Full as NoKeyLeft, Limit as NoEntryLeft, remove_key, pop_entry}
 use Rattle.php_memdef.specs.declared.place.PropName.{PropName}
@@ -11,9 +11,10 @@ use Rattle.php_memdef.specs.declared.place.Place.{Place}
 use Rattle.php_memdef.specs.declared.answer.Wrote.{Wrote}
 use Rattle.php_memdef.specs.declared.answer.Wrote.TheVariants.{Done, NotArray, Full, Limit}
 use Rattle.php_memdef.specs.Numbered.{numbered, with_numbered}
-use Rattle.php_memdef.specs.Contents.{array, Item, value, link, Variable, Property, Mem, scope_of, object_of}
+use Rattle.php_memdef.specs.Contents.{Content, text, array, Item, value, link, Variable, Property, Mem, scope_of, object_of}
 use Rattle.php_memdef.specs.Places.{Spot, stored, standing, with_scope, with_object, content_at, with_content, variable_store, property_store, prop_name_eq, base_spot, elements_of, elements_to_write, step_store, step_set, spot_along, find_place, Walk, reached, stopped, walk}
-use Rattle.php_memdef.specs.Temporaries.{pushed, popped, top, let_fall}
+use Rattle.php_memdef.specs.Temporaries.{pushed, popped, top, with_top, let_fall}
+use Rattle.php_memdef.specs.Views.{found}
 
 abbrev pub moved_in : Item → Mem → ℕ → Spot → Mem
 moved_in (value c) m b spot = let_fall (popped (with_content m spot c) b) b (value (content_at m spot))
@@ -26,6 +27,20 @@ assigned (stopped why) m b = (m, why)
 -- the top temporary moves into the place, and what the place held falls
 unfoldable pub assign : Mem → ℕ → Place → Mem × Wrote
 assign m b to = assigned (walk m to.base to.path) m b
+
+-- the bytes of a text, none of anything else
+
+abbrev pub text_found : Option Content → List ℕ
+text_found (Some (text bytes)) = bytes
+text_found _ = []
+
+abbrev pub text_of_item : Item → List ℕ
+text_of_item (value (text bytes)) = bytes
+text_of_item _ = []
+
+-- the text at the place with the text on top behind it is assigned to the place
+unfoldable pub append : Mem → ℕ → Place → Mem
+append m b to = (assign (with_top m b (value (text (text_found (found m to) ++ text_of_item (top m b))))) b to).0
 
 abbrev pub linked : Walk → Mem → ℕ → Mem × Wrote
 linked (reached n (stored s)) m b = (pushed n b (link s), Done)

@@ -40,6 +40,15 @@ pub enum Fallen {
     Frame(Block),
 }
 
+/// How far a path leads.
+#[derive(Clone, Copy)]
+pub struct Met<'a> {
+    /// How many of its steps lead somewhere.
+    pub steps: usize,
+    /// What stands where the last of these leads, or where the path begins.
+    pub end: Peek<'a>,
+}
+
 /// What stands at a place.
 #[derive(Clone, Copy)]
 pub enum Peek<'a> {

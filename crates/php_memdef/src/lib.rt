@@ -8,7 +8,7 @@ mod path;
 mod place;
 mod worked;
 
-pub use answer::{Fallen, NoObject, Peek, Read, Wrote};
+pub use answer::{Fallen, Met, NoObject, Peek, Read, Wrote};
 pub use memory::Memory;
 pub use names::{Block, Name, Obj, StaticId};
 pub use path::Path;

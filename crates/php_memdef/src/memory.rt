@@ -3,13 +3,13 @@ ghost use Rattle.std.specs.Prelude.{◌≡◌, ◌≤◌, ℕ, Bool, Some, IfOk,
 ghost use Rattle.php_memdef.specs.Contents.{Mem};
 ghost use Rattle.php_memdef.specs.Holders.{vslots};
 ghost use Rattle.php_memdef.specs.Objects as objects;
-ghost use Rattle.php_memdef.specs.Views.{Shows, found, later_entry, is_aliased, temps_count};
+ghost use Rattle.php_memdef.specs.Views.{Shows, found, later_entry, is_aliased, is_link, steps_met, end_met, temps_count};
 ghost use Rattle.php_memdef.specs.Conditions.{IsBlock, IsObject, IsPlace};
 ghost use Rattle.php_memdef.specs.Operations as op;
 ghost use Rattle.php_memdef.specs.Operations.{Can, run, effect, cost};
 ghost use Rattle.php_memdef.specs.Meanings.{SomeMeant, EachMeant, Keeps, Does, Answers, Enters, MakesNone, MakesAtMost};
 
-use crate::answer::{Fallen, NoObject, Peek, Read, Wrote};
+use crate::answer::{Fallen, Met, NoObject, Peek, Read, Wrote};
 use crate::names::{Block, Name, Obj};
 use crate::place::{Place, PropName};
 use php_base::NoMemory;
@@ -104,6 +104,26 @@ pub trait Memory {
         ensures effect { Does (means self.old) (means self.new) (effect (op.pass from.0 to.0)) }
         ensures made { MakesAtMost frugal (means self.old) (made_of self.old) (made_of self.new) (cost (op.pass from.0 to.0)) };
 
+    /// Puts the so many top temporaries in reverse order.
+    fn turn(&mut self, block: Block, count: usize)
+        requires { SomeMeant (means self.old) (Can (op.turn block.0 count)) }
+        ensures effect { Does (means self.old) (means self.new) (effect (op.turn block.0 count)) }
+        ensures made { MakesAtMost frugal (means self.old) (made_of self.old) (made_of self.new) (cost (op.turn block.0 count)) };
+
+    /// Makes room for so many more temporaries and falling items in the block.
+    fn reserve(&mut self, block: Block, more: usize) -> Result<(), NoMemory>
+        requires { SomeMeant (means self.old) (Can (op.reserve block.0 more)) }
+        ensures ok { IfOk result (λ _. Does (means self.old) (means self.new) (effect (op.reserve block.0 more))) }
+        ensures no_memory { OnErr result (Keeps (means self.old) (means self.new)) }
+        ensures made { MakesAtMost frugal (means self.old) (made_of self.old) (made_of self.new) (cost (op.reserve block.0 more)) };
+
+    /// Moves the text on top behind the text at the place, as an assignment of both together would.
+    fn append(&mut self, block: Block, to: &Place) -> Result<(), NoMemory>
+        requires { SomeMeant (means self.old) (Can (op.append block.0 to.now)) }
+        ensures ok { IfOk result (λ _. Does (means self.old) (means self.new) (effect (op.append block.0 to.now))) }
+        ensures no_memory { OnErr result (Keeps (means self.old) (means self.new)) }
+        ensures made { MakesAtMost frugal (means self.old) (made_of self.old) (made_of self.new) (cost (op.append block.0 to.now)) };
+
     /// Removes the variable, property or element at the place, where there is one, and lets its
     /// store fall.
     fn unset(&mut self, block: Block, at: &Place) -> Result<(), NoMemory>
@@ -190,6 +210,23 @@ pub trait Memory {
     fn entry_after(&self, at: &Place, serial: u64) -> Option<(u64, &Key)>
         requires { SomeMeant (means self.now) (λ m. IsPlace m at.now) }
         ensures { EachMeant (means self.now) (λ m. option_map (λ e. (e.0, e.1.now)) result ≡ later_entry m at.now serial) };
+
+    /// As `entry_after`, for a walk that keeps a hint of where in the array it is. The call sets the
+    /// hint; any number is right, 0 at first, and the answer doesn't depend on it.
+    fn entry_after_near(&self, at: &Place, serial: u64, near: &mut usize) -> Option<(u64, &Key)>
+        requires { SomeMeant (means self.now) (λ m. IsPlace m at.now) }
+        ensures { EachMeant (means self.now) (λ m. option_map (λ e. (e.0, e.1.now)) result ≡ later_entry m at.now serial) };
+
+    /// How many steps of the path lead somewhere, and what stands where they end.
+    fn meets(&self, at: &Place) -> Met<'_>
+        requires { SomeMeant (means self.now) (λ m. IsPlace m at.now) }
+        ensures steps { EachMeant (means self.now) (λ m. result.steps ≡ steps_met m at.now) }
+        ensures end { EachMeant (means self.now) (λ m. Shows result.end (end_met m at.now)) };
+
+    /// Whether the temporary of this depth, the top at 0, is there and is a link.
+    fn is_link(&self, block: Block, depth: usize) -> bool
+        requires { SomeMeant (means self.now) (λ m. IsBlock m block.0) }
+        ensures { EachMeant (means self.now) (λ m. result ≡ is_link m block.0 depth) };
 
     /// Whether the place has a store that something else points to as well.
     fn aliased(&self, at: &Place) -> bool

@@ -1,3 +1,4 @@
 pub mod OneBlockLemmas
+pub mod OneBlockCallLemmas
 pub mod WitnessLemmas
 pub mod TestLemmas

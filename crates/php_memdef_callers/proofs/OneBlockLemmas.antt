@@ -81,7 +81,7 @@ one_more_array : (k : ℕ) → fallen_arrays k ++ value (array no_entries) ∷ [
 one_more_array zero = refl
 one_more_array (suc k) = let e : suc (k + 1) ≡ suc k + 1 = omega arith in ap (λ is. value (array no_entries) ∷ is) (one_more_array k) ∙ ap fallen_arrays e
 
-no_more : (is : List Item) → is ++ [] ≡ is
+pub no_more : (is : List Item) → is ++ [] ≡ is
 no_more [] = refl
 no_more (i ∷ is) = ap (λ js. i ∷ js) (no_more is)
 
@@ -101,7 +101,7 @@ top_dropped r t ts k hs = let_fall-view r ts k hs t
 
 -- a place is found where something is held
 
-empty_elements : (h : Held) (step : Step) → step_store_if (elements_of (content_of_held h)) step ≡ None
+pub empty_elements : (h : Held) (step : Step) → step_store_if (elements_of (content_of_held h)) step ≡ None
 empty_elements Array (At k) = refl
 empty_elements Array Push = refl
 empty_elements (Value scalar.Null) step = refl
@@ -119,13 +119,13 @@ static_number j [] i = refl
 static_number j (h ∷ hs) zero = let e : j ≡ j + 0 = omega arith in ap Some e
 static_number j (h ∷ hs) (suc i) = let e : suc j + i ≡ j + suc i = omega arith in static_number (suc j) hs i ∙ ap (λ n. option_map (λ (h : Held). n) (slice_get hs i)) e
 
-temp_held : (ts : List Held) (n : ℕ) → nth_item (map item_of_held ts) n ≡ option_map item_of_held (slice_get ts n)
+pub temp_held : (ts : List Held) (n : ℕ) → nth_item (map item_of_held ts) n ≡ option_map item_of_held (slice_get ts n)
 temp_held [] n = refl
 temp_held (t ∷ ts) zero = refl
 temp_held (t ∷ ts) (suc n) = temp_held ts n
 
 -- a spot that holds what is held
-abbrev IsHeld : Mem → Option Spot → Option Held → Type 0
+abbrev pub IsHeld : Mem → Option Spot → Option Held → Type 0
 IsHeld m None None = Unit {0}
 IsHeld m (Some spot) (Some h) = content_at m spot ≡ content_of_held h
 IsHeld m None (Some h) = ⊥
@@ -142,7 +142,7 @@ module _ (m : Mem) where
   nothing_behind None (Some h) e step path = absurd e
   nothing_behind (Some spot) None e step path = absurd e
 
-  is_found : (o : Option Spot) (h : Option Held) → IsHeld m o h → content_if_found m o ≡ option_map content_of_held h
+  pub is_found : (o : Option Spot) (h : Option Held) → IsHeld m o h → content_if_found m o ≡ option_map content_of_held h
   is_found None None e = refl
   is_found (Some spot) (Some h) e = ap Some e
   is_found None (Some h) e = absurd e
@@ -178,7 +178,7 @@ temporary_held false r ts k hs zero n = tt
 temporary_held true r ts k hs (suc b) n = subst (λ (x : Bool). IsHeld (view_of true r ts k hs) None (cond x (slice_get ts n) None)) (sym (ne_eqb (suc b) 0 (λ e. absurd (omega (arith, e))))) tt
 temporary_held false r ts k hs (suc b) n = tt
 
-base_held : (o : Bool) (r : ℕ) (ts : List Held) (k : ℕ) (hs : List Held) (base : Base) → IsHeld (view_of o r ts k hs) (base_spot (view_of o r ts k hs) base) (held_of o ts hs base [])
+pub base_held : (o : Bool) (r : ℕ) (ts : List Held) (k : ℕ) (hs : List Held) (base : Base) → IsHeld (view_of o r ts k hs) (base_spot (view_of o r ts k hs) base) (held_of o ts hs base [])
 base_held o r ts k hs (Static i) = static_held o r ts k hs i.0
 base_held o r ts k hs (Property h p) = tt
 base_held o r ts k hs (Var b n) = variable_held o r ts k hs b.0 n.0
@@ -326,7 +326,7 @@ module _ {X : Type 0} (o : Bool) (r : ℕ) (ts : List Held) (k : ℕ) (hs : List
 pub is_open : (o : Bool) (r : ℕ) (ts : List Held) (k : ℕ) (hs : List Held) (b : ℕ) (n : Mem) → n ≡ view_of o r ts k hs → IsBlock n b → o ≡ true
 is_open o r ts k hs b n d block = (the_block o r ts k hs b (subst (λ (x : Mem). IsBlock x b) d block)).0
 
-items_count : (ts : List Held) → length (map item_of_held ts) ≡ length ts
+pub items_count : (ts : List Held) → length (map item_of_held ts) ≡ length ts
 items_count [] = refl
 items_count (t ∷ ts) = ap suc (items_count ts)
 

@@ -1,17 +1,17 @@
 -- Conditions and effects at an example memory, computed.
-use Rattle.std.proofs.Common.{◌≡◌, ℕ, zero, suc, refl, arith}
+use Rattle.std.proofs.Common.{◌≡◌, ℕ, zero, suc, [], ◌∷◌, refl, arith}
 use Rattle.std.specs.Prelude.{Some}
 use Rattle.php_entries.specs.Changes.{set_value, append_value, remove_key, pop_entry}
 use Rattle.php_memdef.specs.Holders.{holders, object_holders}
 use Rattle.php_memdef.specs.Copies.{copied}
 use Rattle.php_memdef.specs.Places.{find_place, walk}
 use Rattle.php_memdef.specs.Temporaries.{enter, push, push_object, settle}
-use Rattle.php_memdef.specs.Writes.{assign, make_link, bind, unset, unset_last}
+use Rattle.php_memdef.specs.Writes.{assign, append, make_link, bind, unset, unset_last}
 use Rattle.php_memdef.specs.Releases.{fall}
 use Rattle.php_memdef.specs.Objects.{make_object, clone_object, finish, spare, attach}
 use Rattle.php_memdef.specs.Contents.{object_of}
 use Rattle.php_memdef.specs.Conditions.{IsBlock}
-use Rattle.php_memdef_callers.specs.Witnesses.{LinkCanBeMade, LinkCanBeBound, LinkCanBeSettled, ElementCanBeUnset, LastCanBeUnset, one_object, ObjectCanBeMade, ObjectCanBeMarked, FrameCanBeAttached, HandleCanBePushed, ObjectCanBeCloned}
+use Rattle.php_memdef_callers.specs.Witnesses.{LinkCanBeMade, LinkCanBeBound, LinkCanBeSettled, ElementCanBeUnset, LastCanBeUnset, TextCanBeAppended, one_object, ObjectCanBeMade, ObjectCanBeMarked, FrameCanBeAttached, HandleCanBePushed, ObjectCanBeCloned}
 
 pub link_made : LinkCanBeMade
 unfolding set_value append_value holders object_holders find_place walk enter push assign make_link fall
@@ -45,6 +45,13 @@ pub last_unset : LastCanBeUnset
 unfolding set_value append_value pop_entry holders object_holders find_place walk enter push assign unset_last fall
 last_unset = record {
   condition = record { block = refl; place = (refl, tt) };
+  effect = refl;
+}
+
+pub text_appended : TextCanBeAppended
+unfolding holders object_holders find_place walk enter push assign append fall
+text_appended = record {
+  condition = record { block = refl; place = (refl, tt); below_top = tt; before = 97 ∷ 98 ∷ 99 ∷ []; behind = 100 ∷ []; there = refl; top = refl; short = omega arith };
   effect = refl;
 }
 

@@ -1,17 +1,18 @@
 -- Memories on which the calls that the small memory refuses can be made, and what they come to there.
 use Rattle.std.specs.Prelude.{◌≡◌, false, [], ◌∷◌, Some, None, pos}
+use Rattle.php_value.specs.declared.scalar.Scalar.TheVariants as scalar
 use Rattle.php_memdef.specs.declared.place.Step.TheVariants.{Push}
 use Rattle.php_memdef.specs.declared.place.Place.{Place}
 use Rattle.php_memdef.specs.declared.answer.Wrote.TheVariants.{Done}
-use Rattle.php_memdef.specs.Contents.{int, object, value, Mem, object_of}
-use Rattle.php_memdef.specs.Temporaries.{settle, top}
+use Rattle.php_memdef.specs.Contents.{int, text, object, value, Mem, object_of}
+use Rattle.php_memdef.specs.Temporaries.{push, settle, top}
 use Rattle.php_memdef.specs.Writes.{make_link, bind, unset}
 use Rattle.php_memdef.specs.Views.{found}
 use Rattle.php_memdef.specs.Objects.{class_of, eldest}
 use Rattle.php_memdef.specs.Operations.{Can, effect, answer}
 use Rattle.php_memdef.specs.Operations as op
 use Rattle.php_memdef.specs.Conditions.{CanLink, CanBind, CanSettle, CanUnset}
-use Rattle.php_memdef.specs.Examples.{start, variable, at, sets_int, $a, $b}
+use Rattle.php_memdef.specs.Examples.{start, with_text, variable, at, sets_int, $a, $b}
 
 -- $a = [5];
 abbrev pub one_element : Mem
@@ -43,6 +44,14 @@ pub record ElementCanBeUnset : Type 0 where
 pub record LastCanBeUnset : Type 0 where
   pub condition : Can (op.unset_last 0 (variable $a [])) one_element
   pub effect : found (effect (op.unset_last 0 (variable $a [])) one_element) element ≡ None
+
+-- $a = "abc"; and "d" on top
+abbrev pub text_on_top : Mem
+text_on_top = push with_text 0 (scalar.Str (100 ∷ []))
+
+pub record TextCanBeAppended : Type 0 where
+  pub condition : Can (op.append 0 (variable $a [])) text_on_top
+  pub effect : found (effect (op.append 0 (variable $a [])) text_on_top) (variable $a []) ≡ Some (text (97 ∷ 98 ∷ 99 ∷ 100 ∷ []))
 
 -- an object of class 3 without a destructor; its handle is on top
 abbrev pub one_object : Mem

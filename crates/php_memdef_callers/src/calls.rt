@@ -2,7 +2,7 @@
 use crate::cells::{Held, OneBlock};
 use php_base::NoMemory;
 use php_memdef::{
-    Base, Block, Fallen, Memory, Name, NoObject, Obj, Peek, Place, PropName, Read, Wrote,
+    Base, Block, Fallen, Memory, Met, Name, NoObject, Obj, Peek, Place, PropName, Read, Wrote,
 };
 use php_value::{Key, Scalar};
 
@@ -84,6 +84,19 @@ impl Memory for OneBlock {
     // There is one block alone.
     fn pass(&mut self, _from: Block, _to: Block) {}
 
+    fn turn(&mut self, _block: Block, count: usize) {
+        self.turn_held(count);
+    }
+
+    fn reserve(&mut self, _block: Block, more: usize) -> Result<(), NoMemory> {
+        self.widen(more)?;
+        Ok(())
+    }
+
+    fn append(&mut self, _block: Block, _to: &Place) -> Result<(), NoMemory> {
+        Err(NoMemory)
+    }
+
     fn unset(&mut self, _block: Block, _at: &Place) -> Result<(), NoMemory> {
         Err(NoMemory)
     }
@@ -132,6 +145,27 @@ impl Memory for OneBlock {
 
     fn entry_after(&self, _at: &Place, _serial: u64) -> Option<(u64, &Key)> {
         None
+    }
+
+    fn entry_after_near(
+        &self,
+        _at: &Place,
+        _serial: u64,
+        _near: &mut usize,
+    ) -> Option<(u64, &Key)> {
+        None
+    }
+
+    // There are no elements.
+    fn meets(&self, at: &Place) -> Met<'_> {
+        Met {
+            steps: 0,
+            end: self.peek_base(&at.base),
+        }
+    }
+
+    fn is_link(&self, _block: Block, _depth: usize) -> bool {
+        false
     }
 
     fn aliased(&self, _at: &Place) -> bool {

@@ -1,5 +1,5 @@
 // A small memory: one block, and statics that hold scalars and arrays without elements.
-ghost use Rattle.std.specs.Prelude.{◌≡◌, ◌≤◌, ◌+◌, ◌<◌, ◌∷◌, ◌++◌, [], Some, IfOk, OnOk, OnErr, length, slice_get, option_map, option_copied, true, false, vec_len, ◌^◌};
+ghost use Rattle.std.specs.Prelude.{◌≡◌, ◌≤◌, ◌+◌, ◌<◌, ◌∷◌, ◌++◌, [], Some, IfOk, OnOk, OnErr, length, slice_get, option_map, option_copied, true, false, vec_len, reverse, take, drop, ◌^◌};
 ghost use Rattle.std.specs.VecDeque.{deque_len, deque_capacity};
 ghost use Rattle.php_memdef.specs.Rest.{IsFresh};
 ghost use Rattle.php_memdef.specs.Views.{Shows};
@@ -48,6 +48,15 @@ impl Held {
     }
 }
 
+// Puts the first so many in reverse order.
+fn turn_front(held: &mut [Held], count: usize)
+    requires { count ≤ length held.old }
+    ensures items { held.new ≡ reverse (take count held.old) ++ drop count held.old }
+    ensures len { length held.new ≡ length held.old }
+{
+    held[..count].reverse();
+}
+
 impl OneBlock {
     /// A memory in which nothing was made yet.
     pub fn new(alloc: Global) -> OneBlock
@@ -89,6 +98,16 @@ impl OneBlock {
                 }
             }
             Base::Var(_, _) | Base::Property(_, _) => None,
+        }
+    }
+
+    // What a look at what stands where a place begins shows.
+    pub(crate) fn peek_base(&self, base: &Base) -> Peek<'_>
+        ensures { Shows result (option_map content_of_held (held_at_base self.now base.now)) }
+    {
+        match self.held_base(base) {
+            None => Peek::Absent,
+            Some(held) => held.peek(),
         }
     }
 
@@ -151,6 +170,27 @@ impl OneBlock {
         self.room = room;
         self.is_open = true;
         Ok(())
+    }
+
+    // Makes room for so many more temporaries.
+    pub(crate) fn widen(&mut self, more: usize) -> Result<(), NoMemory>
+        ensures ok { OnOk result (view self.new ≡ view_of self.old.is_open (self.old.room + more) self.old.temps.items self.old.fallen self.old.statics.items) }
+        ensures no_memory { OnErr result (view self.new ≡ view self.old) }
+    {
+        let Some(room) = self.room.checked_add(more) else {
+            return Err(NoMemory);
+        };
+        self.temps.reserve(room)?;
+        self.room = room;
+        Ok(())
+    }
+
+    // Puts the so many top temporaries in reverse order.
+    pub(crate) fn turn_held(&mut self, count: usize)
+        requires { count ≤ length self.old.temps.items }
+        ensures { view self.new ≡ view_of self.old.is_open self.old.room (reverse (take count self.old.temps.items) ++ drop count self.old.temps.items) self.old.fallen self.old.statics.items }
+    {
+        turn_front(self.temps.make_contiguous(), count);
     }
 
     pub(crate) fn close_block(&mut self)

@@ -1,5 +1,5 @@
 // The calls that the small memory answers by want of memory alone: their conditions can be met too.
-ghost use Rattle.php_memdef_callers.specs.Witnesses.{ElementCanBeUnset, FrameCanBeAttached, HandleCanBePushed, LastCanBeUnset, LinkCanBeBound, LinkCanBeMade, LinkCanBeSettled, ObjectCanBeCloned, ObjectCanBeMade, ObjectCanBeMarked};
+ghost use Rattle.php_memdef_callers.specs.Witnesses.{ElementCanBeUnset, FrameCanBeAttached, HandleCanBePushed, LastCanBeUnset, LinkCanBeBound, LinkCanBeMade, LinkCanBeSettled, ObjectCanBeCloned, ObjectCanBeMade, ObjectCanBeMarked, TextCanBeAppended};
 
 /// On a memory with an array of one element, a link to it can be made, bound and settled, and it can
 /// be removed.
@@ -9,6 +9,7 @@ pub fn other_calls_can_be_made()
     ensures settle { LinkCanBeSettled }
     ensures unset { ElementCanBeUnset }
     ensures unset_last { LastCanBeUnset }
+    ensures append { TextCanBeAppended }
 {}
 
 /// On a memory with a block an object can be made, then marked, given a frame, pushed and cloned.

@@ -10,4 +10,5 @@ pub mod Copies
 pub mod Releases
 pub mod Temporaries
 pub mod Views
+pub mod Appends
 pub mod Operations

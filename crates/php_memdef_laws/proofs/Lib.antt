@@ -1,6 +1,13 @@
 pub mod NumberedLemmas
 pub mod Alike
 pub mod EndLemmas
+pub mod AppendLemmas
 pub mod Closed
 pub mod Formed
 pub mod Held
+pub mod StopLemmas
+pub mod ReadLemmas
+pub mod FreshLemmas
+pub mod Shapes
+pub mod DeciderLemmas
+pub mod DecidedOperations

@@ -2,16 +2,23 @@
 // of all memories.
 #![tactic(auto)]
 
-ghost use Rattle.std.specs.Prelude.{◌≡◌, ℕ, []};
+ghost use Rattle.std.specs.Prelude.{◌≡◌, ℕ, [], Some};
 ghost use Rattle.php_memdef.specs.declared.place.Place.{Place};
 ghost use Rattle.php_memdef.specs.declared.answer.Peek.{Peek};
 ghost use Rattle.php_memdef.specs.declared.answer.Fallen.TheVariants.{Nothing};
-ghost use Rattle.php_memdef.specs.Contents.{Mem, scope_of};
+ghost use Rattle.php_memdef.specs.Contents.{Content, Mem, fresh, scope_of};
 ghost use Rattle.php_memdef.specs.Alike.{Alike};
-ghost use Rattle.php_memdef.specs.Sound.{IsClosed, IsFormed};
+ghost use Rattle.php_memdef.specs.Sound.{IsClosed, IsFormed, IsSound};
+ghost use Rattle.php_memdef.specs.Rest.{IsFresh};
+ghost use Rattle.php_memdef.specs.Reading.{Manner, gives, reading};
+ghost use Rattle.php_memdef_laws.specs.Readings.{renamed_reading};
+ghost use Rattle.php_memdef_laws.specs.Shapes.{shape, shape_after};
+ghost use Rattle.php_memdef_laws.specs.Stops.{StopsFor};
 ghost use Rattle.php_memdef.specs.Holders.{vslots};
-ghost use Rattle.php_memdef.specs.Views.{Shows, found, later_entry, is_aliased, temps_count, cost_of};
+ghost use Rattle.php_memdef.specs.Views.{Shows, found, later_entry, is_aliased, is_link, steps_met, end_met, temps_count, cost_of};
 ghost use Rattle.php_memdef.specs.Conditions.{IsBlock, IsObject, IsPlace};
+ghost use Rattle.std.specs.Bool.{Decides};
+ghost use Rattle.php_memdef.specs.Deciders.{can};
 ghost use Rattle.php_memdef.specs.Operations.{Operation, Can, run, effect, cost};
 ghost use Rattle.php_memdef.specs.Laws.{AnswersAlike, HoldsAlike, KeepsClosed, KeepsFormed, KeepsHeld, KeepsSound, ShowsAlike};
 ghost use Rattle.php_memdef.specs.Objects as objects;
@@ -37,6 +44,9 @@ pub fn views_respect_alike()
     ensures peek { (look : Peek) (p : Place) → HoldsAlike (λ m. Shows look (found m p)) }
     ensures entry_after { (p : Place) (serial : ℕ) → ShowsAlike (λ m. later_entry m p serial) }
     ensures aliased { (p : Place) → ShowsAlike (λ m. is_aliased m p) }
+    ensures is_link { (b n : ℕ) → ShowsAlike (λ m. is_link m b n) }
+    ensures steps_met { (p : Place) → ShowsAlike (λ m. steps_met m p) }
+    ensures end_met { (look : Peek) (p : Place) → HoldsAlike (λ m. Shows look (end_met m p)) }
     ensures temps { (b : ℕ) → ShowsAlike (λ m. temps_count m b) }
     ensures slots { ShowsAlike vslots }
     ensures cost { (p : Place) → ShowsAlike (λ m. cost_of m p) }
@@ -59,6 +69,39 @@ pub fn operations_keep_sound()
     ensures held { (o : Operation) →
         KeepsHeld (λ m. IsClosed m × (IsFormed m × Can o m)) (effect o) }
     ensures sound { (o : Operation) → KeepsSound (Can o) (effect o) }
+{}
+
+/// The test of each operation tells exactly when it may be made.
+pub fn conditions_are_decided()
+    ensures { (o : Operation) (m : Mem) → Decides (can o m) (Can o m) }
+{}
+
+/// What each operation that may be made makes of every block: whether it is there, its room, how many
+/// temporaries it has and which of these are links.
+pub fn shapes_after()
+    ensures { (o : Operation) (m : Mem) → Can o m →
+        (c : ℕ) → shape (effect o m) c ≡ shape_after o m c }
+{}
+
+/// Reading gives alike memories the same, and gives what is found.
+pub fn readings_agree()
+    ensures alike { (manner : Manner) (p : Place) (m n : Mem) → (a : Alike m n) →
+        reading manner n p ≡ renamed_reading a.to (reading manner m p) }
+    ensures found { (manner : Manner) (p : Place) (m : Mem) (c : Content) →
+        found m p ≡ Some c → reading manner m p ≡ gives c }
+{}
+
+/// A memory in which nothing was made yet is sound, and alike to the fresh one.
+pub fn fresh_is_sound()
+    ensures sound { (m : Mem) → IsFresh m → IsSound m }
+    ensures alike { (m : Mem) → IsFresh m → Alike fresh m }
+{}
+
+/// What a release answers is so: nothing is left, or the object that is to be destroyed is there and
+/// the first that falls, or the frame that is to be released is there and waits in no object.
+pub fn releases_stop()
+    ensures { (m : Mem) (b : ℕ) →
+        IsFormed m → StopsFor (releases.fall m b).1 b (releases.fall m b).0 }
 {}
 
 /// A release that answers that nothing is left has released all that had fallen in the block.

@@ -15,11 +15,13 @@ use Rattle.php_memdef.specs.Operations.{Operation, Can, run, cost, cost_if_done,
 use Rattle.php_memdef.specs.Operations as op
 use Rattle.php_memdef.specs.Laws.{AnswersAlike, HoldsAlike}
 use Rattle.php_memdef_laws.proofs.Alike.Temporaries.{enter-renamed, leave-renamed, push-renamed, push_array-renamed, push_object-renamed, pass-renamed, drop_top-renamed}
+use Rattle.php_memdef_laws.proofs.Alike.Scopes.{turn-renamed, reserve-renamed}
+use Rattle.php_memdef_laws.proofs.Alike.Appends.{append-alike}
 use Rattle.php_memdef_laws.proofs.Alike.Copies.{copy-alike, settle-alike}
 use Rattle.php_memdef_laws.proofs.Alike.Places.{unset-renamed, unset_last-renamed, forget-renamed, shed-renamed}
 use Rattle.php_memdef_laws.proofs.Alike.Walks.{assign-alike, make_link-alike, bind-alike}
 use Rattle.php_memdef_laws.proofs.Alike.Releases.{fall-renamed, make_object-renamed, clone_object-alike, finish-renamed, spare-renamed, attach-renamed}
-use Rattle.php_memdef_laws.proofs.Alike.Views.{found-renamed, elements_if-renamed, length_entries, cost_of-alike, IsBlock-alike, IsObject-alike, CanLeave-alike, CanPush-alike, CanPushArray-alike, CanPushObject-alike, CanCopy-alike, CanAssign-alike, CanLink-alike, CanBind-alike, CanSettle-alike, CanPass-alike, CanUnset-alike, CanUnsetLast-alike, CanForget-alike, CanDropTop-alike, CanMakeObject-alike, CanClone-alike, CanAttach-alike}
+use Rattle.php_memdef_laws.proofs.Alike.Views.{found-renamed, elements_if-renamed, length_entries, cost_of-alike, IsBlock-alike, IsObject-alike, CanLeave-alike, CanPush-alike, CanPushArray-alike, CanPushObject-alike, CanCopy-alike, CanAssign-alike, CanLink-alike, CanBind-alike, CanSettle-alike, CanTurn-alike, CanAppend-alike, CanPass-alike, CanUnset-alike, CanUnsetLast-alike, CanForget-alike, CanDropTop-alike, CanMakeObject-alike, CanClone-alike, CanAttach-alike}
 
 -- one renaming before and after
 
@@ -38,6 +40,9 @@ run-alike (op.link b from) m n closed a = make_link-alike m n closed a b from
 run-alike (op.bind b to) m n closed a = bind-alike m n closed a b to
 run-alike (op.settle b) m n closed a = (settle-alike m n closed a b, refl)
 run-alike (op.pass b c) m n closed a = (kept m n a _ _ (pass-renamed a.to a.back m n a.renamed b c), refl)
+run-alike (op.turn b k) m n closed a = (kept m n a _ _ (turn-renamed a.to a.back m n a.renamed b k), refl)
+run-alike (op.reserve b k) m n closed a = (kept m n a _ _ (reserve-renamed a.to a.back m n a.renamed b k), refl)
+run-alike (op.append b to) m n closed a = (append-alike m n closed a b to, refl)
 run-alike (op.unset b at) m n closed a = (kept m n a _ _ (unset-renamed a.to a.back m n a.renamed b at), refl)
 run-alike (op.unset_last b at) m n closed a = (kept m n a _ _ (unset_last-renamed a.to a.back m n a.renamed b at), refl)
 run-alike (op.forget b k) m n closed a = (kept m n a _ _ (forget-renamed a.to a.back m n a.renamed b k), refl)
@@ -65,6 +70,9 @@ Can-alike (op.link b p) m n a h = CanLink-alike a.to a.back m n a.renamed b p h
 Can-alike (op.bind b p) m n a h = CanBind-alike a.to a.back m n a.renamed b p h
 Can-alike (op.settle b) m n a h = CanSettle-alike a.to a.back m n a.renamed b h
 Can-alike (op.pass b c) m n a h = CanPass-alike a.to a.back m n a.renamed b c h
+Can-alike (op.turn b k) m n a h = CanTurn-alike a.to a.back m n a.renamed b k h
+Can-alike (op.reserve b k) m n a h = IsBlock-alike a.to a.back m n a.renamed b h
+Can-alike (op.append b p) m n a h = CanAppend-alike a.to a.back m n a.renamed b p h
 Can-alike (op.unset b p) m n a h = CanUnset-alike a.to a.back m n a.renamed b p h
 Can-alike (op.unset_last b p) m n a h = CanUnsetLast-alike a.to a.back m n a.renamed b p h
 Can-alike (op.forget b k) m n a h = CanForget-alike a.to a.back m n a.renamed b h
@@ -109,6 +117,9 @@ cost-alike (op.link b p) m n closed a = write-cost m n closed a (writes.make_lin
 cost-alike (op.bind b p) m n closed a = write-cost m n closed a (writes.bind n b p).1 (writes.bind m b p).1 p (bind-alike m n closed a b p).1
 cost-alike (op.settle b) m n closed a = refl
 cost-alike (op.pass b c) m n closed a = refl
+cost-alike (op.turn b k) m n closed a = refl
+cost-alike (op.reserve b k) m n closed a = refl
+cost-alike (op.append b p) m n closed a = place-cost m n closed a p
 cost-alike (op.unset b p) m n closed a = place-cost m n closed a p
 cost-alike (op.unset_last b p) m n closed a = last-cost m n closed a p
 cost-alike (op.forget b k) m n closed a = refl

@@ -1,10 +1,10 @@
 -- Temporaries, variables and what has fallen, in memories that differ in the numbers of their stores.
-use Rattle.std.proofs.Common.{◌≡◌, ℕ, zero, suc, List, [], ◌∷◌, ◌++◌, refl, sym, ◌∙◌, ap, cond}
+use Rattle.std.proofs.Common.{◌≡◌, ℕ, zero, suc, List, [], ◌∷◌, ◌++◌, ◌+◌, refl, sym, ◌∙◌, ap, cond}
 use Rattle.std.specs.Prelude.{Bool, true, false, nat_eq, Option, Some, None}
 use Rattle.php_memdef.specs.declared.place.PropName.{PropName}
 use Rattle.php_memdef.specs.Contents.{null, truth, int, text, array, object, Item, value, link, Variable, Property, Mem, scope_of}
 use Rattle.php_memdef.specs.Places.{nth_item, with_nth_item, variable_store, property_store, prop_name_eq}
-use Rattle.php_memdef.specs.Temporaries.{with_falling, pushed, rest_of, popped, top_of, top, fallen, let_fall}
+use Rattle.php_memdef.specs.Temporaries.{with_temps, with_falling, pushed, rest_of, popped, top_of, top, with_top, turned, turn, reserve, fallen, let_fall}
 use Rattle.php_memdef.specs.Writes.{with_variable, with_property, without_variable, without_property, let_fall_if}
 use Rattle.php_memdef.specs.Alike.{map_if, renamed_item, renamed_items, renamed_variables, renamed_scope, renamed_properties, IsRenamed}
 use Rattle.php_memdef_laws.proofs.Alike.Memories.{scope_of-renamed, scope_change-renamed}
@@ -21,6 +21,11 @@ module _ (to : ℕ → ℕ) where
   pub top_of-renamed : (is : List Item) → top_of (renamed_items to is) ≡ renamed_item to (top_of is)
   top_of-renamed [] = refl
   top_of-renamed (i ∷ is) = refl
+
+  pub turned-renamed : (n : ℕ) (is before : List Item) → turned n (renamed_items to is) (renamed_items to before) ≡ renamed_items to (turned n is before)
+  turned-renamed zero is before = sym (renamed_items-append before is)
+  turned-renamed (suc n) [] before = refl
+  turned-renamed (suc n) (i ∷ is) before = turned-renamed n is (i ∷ before)
 
   pub fallen-renamed : (i : Item) → fallen (renamed_item to i) ≡ renamed_items to (fallen i)
   fallen-renamed (link s) = refl
@@ -106,6 +111,17 @@ module _ (to back : ℕ → ℕ) (m n : Mem) (r : IsRenamed to back m n) where
 
   pub top-renamed : (b : ℕ) → top n b ≡ renamed_item to (top m b)
   top-renamed b = ap (λ x. top_of x.temps) (scope_of-renamed to back m n r b) ∙ top_of-renamed to (scope_of m b).temps
+
+  pub with_top-renamed : (b : ℕ) (i : Item) → IsRenamed to back (with_top m b i) (with_top n b (renamed_item to i))
+  with_top-renamed b i = scope_change-renamed to back m n r b (λ x. record x { temps = i ∷ rest_of x.temps }) (λ x. record x { temps = renamed_item to i ∷ rest_of x.temps }) (λ x. ap (λ is. record (renamed_scope to x) { temps = renamed_item to i ∷ is }) (rest_of-renamed to x.temps))
+
+  pub turn-renamed : (b k : ℕ) → IsRenamed to back (turn m b k) (turn n b k)
+  unfolding turn
+  turn-renamed b k = scope_change-renamed to back m n r b (λ x. record x { temps = turned k x.temps [] }) (λ x. record x { temps = turned k x.temps [] }) (λ x. ap (λ is. record (renamed_scope to x) { temps = is }) (turned-renamed to k x.temps []))
+
+  pub reserve-renamed : (b k : ℕ) → IsRenamed to back (reserve m b k) (reserve n b k)
+  unfolding reserve
+  reserve-renamed b k = scope_change-renamed to back m n r b (λ x. record x { room = x.room + k }) (λ x. record x { room = x.room + k }) (λ x. refl)
 
   pub let_fall-renamed : (b : ℕ) (i : Item) → IsRenamed to back (let_fall m b i) (let_fall n b (renamed_item to i))
   let_fall-renamed b i =

@@ -15,10 +15,10 @@ use Rattle.php_memdef.specs.declared.answer.Peek.TheVariants.{Absent, Null, Bool
 use Rattle.php_memdef.specs.Numbered.{Numbered, numbered, total}
 use Rattle.php_memdef.specs.Contents.{Content, null, truth, int, text, array, object, Item, value, link, Scope, Property, Object, Mem, scope_of, object_of}
 use Rattle.php_memdef.specs.Holders.{entries_of_content, entries_of_items, links_of_items, vslots_of_scope, vslots}
-use Rattle.php_memdef.specs.Places.{Spot, stored, standing, next_spot, base_spot, find_place}
+use Rattle.php_memdef.specs.Places.{Spot, stored, standing, nth_item, next_spot, base_spot, find_place}
 use Rattle.php_memdef.specs.Objects.{is_due, first_due, eldest, nth_property, property_name, class_of}
-use Rattle.php_memdef.specs.Views.{content_if_found, found, Shows, elements_if_found, entry_if_later, later_entry, is_spot_shared, is_aliased, temps_count, count_if, cost_along, cost_of}
-use Rattle.php_memdef.specs.Conditions.{IsBlock, IsObject, HasRoom, HasFallingRoom, HasTemp, HasValueOnTop, HasLinkOnTop, HasHandleOnTop, IsBase, IsPlace, IsLinkable, CanLeave, CanPush, CanPushArray, CanCopy, CanAssign, CanLink, CanBind, CanSettle, CanPass, CanUnset, CanUnsetLast, CanForget, CanDropTop, CanPushObject, CanMakeObject, CanClone, CanAttach}
+use Rattle.php_memdef.specs.Views.{content_if_found, found, Shows, elements_if_found, entry_if_later, later_entry, is_spot_shared, is_aliased, is_link_item, is_link, counted_if, steps_along, spot_or, end_along, steps_met, end_met, temps_count, count_if, cost_along, cost_of}
+use Rattle.php_memdef.specs.Conditions.{IsBlock, IsObject, HasRoom, HasFallingRoom, HasTemp, HasValueOnTop, HasLinkOnTop, HasHandleOnTop, IsBase, IsPlace, IsLinkable, CanLeave, CanPush, CanPushArray, CanCopy, CanAssign, CanLink, CanBind, CanSettle, CanTurn, CanAppend, CanPass, CanUnset, CanUnsetLast, CanForget, CanDropTop, CanPushObject, CanMakeObject, CanClone, CanAttach}
 use Rattle.php_memdef.specs.Alike.{map_if, renamed_content, renamed_item, renamed_items, renamed_variables, renamed_scope, renamed_properties, renamed_object, IsRenamed}
 use Rattle.php_memdef_laws.proofs.Alike.Memories.{scope_of-renamed, object_of-renamed}
 use Rattle.php_memdef_laws.proofs.Alike.Places.{renamed_spot, elements_of-renamed, content_at-renamed, nth_temp-renamed, base_spot-renamed, next_spot-renamed, find_place-renamed}
@@ -160,6 +160,48 @@ module _ (to back : ℕ → ℕ) (m n : Mem) (r : IsRenamed to back m n) where
   pub cost_of-alike : (p : Place) → cost_of n p ≡ cost_of m p
   cost_of-alike p = ap (λ o. cost_along n o p.path) (base_spot-renamed to back m n r p.base) ∙ cost_along-alike (base_spot m p.base) p.path
 
+  link_item : (o : Option Item) → is_link_item (map_if (renamed_item to) o) ≡ is_link_item o
+  link_item None = refl
+  link_item (Some (value c)) = refl
+  link_item (Some (link s)) = refl
+
+  pub is_link-alike : (b k : ℕ) → is_link n b k ≡ is_link m b k
+  is_link-alike b k = ap is_link_item (nth_temp-renamed to back m n r b k) ∙ link_item (nth_item (scope_of m b).temps k)
+
+  counted : (o : Option Spot) (k : ℕ) → counted_if (map_if (renamed_spot to) o) k ≡ counted_if o k
+  counted None k = refl
+  counted (Some spot) k = refl
+
+  steps_along-alike : (o : Option Spot) (path : List Step) → steps_along n (map_if (renamed_spot to) o) path ≡ steps_along m o path
+  steps_along-alike o [] = refl
+  steps_along-alike o (step ∷ path) =
+      ap (λ p. counted_if p (steps_along n p path)) (next_spot-renamed to back m n r o step)
+      ∙ counted (next_spot m o step) (steps_along n (map_if (renamed_spot to) (next_spot m o step)) path)
+      ∙ ap (counted_if (next_spot m o step)) (steps_along-alike (next_spot m o step) path)
+
+  pub steps_met-alike : (p : Place) → steps_met n p ≡ steps_met m p
+  steps_met-alike p = ap (λ o. steps_along n o p.path) (base_spot-renamed to back m n r p.base) ∙ steps_along-alike (base_spot m p.base) p.path
+
+  either : (o p : Option Spot) → spot_or (map_if (renamed_spot to) o) (map_if (renamed_spot to) p) ≡ map_if (renamed_spot to) (spot_or o p)
+  either None p = refl
+  either (Some spot) p = refl
+
+  end_along-renamed : (o : Option Spot) (path : List Step) → end_along n (map_if (renamed_spot to) o) path ≡ map_if (renamed_spot to) (end_along m o path)
+  end_along-renamed o [] = refl
+  end_along-renamed o (step ∷ path) =
+      ap (λ p. spot_or (end_along n p path) (map_if (renamed_spot to) o)) (next_spot-renamed to back m n r o step)
+      ∙ ap (λ p. spot_or p (map_if (renamed_spot to) o)) (end_along-renamed (next_spot m o step) path)
+      ∙ either (end_along m (next_spot m o step) path) o
+
+  end_met-renamed : (p : Place) → end_met n p ≡ map_if (renamed_content to) (end_met m p)
+  end_met-renamed p =
+      ap (λ o. content_if_found n (end_along n o p.path)) (base_spot-renamed to back m n r p.base)
+      ∙ ap (content_if_found n) (end_along-renamed (base_spot m p.base) p.path)
+      ∙ content_if-renamed (end_along m (base_spot m p.base) p.path)
+
+  pub end_met-alike : (look : Peek) (p : Place) → Shows look (end_met m p) → Shows look (end_met n p)
+  end_met-alike look p h = subst (λ (o : Option Content). Shows look o) (sym (end_met-renamed p)) (shows-renamed to look (end_met m p) h)
+
   pub vslots-alike : vslots n ≡ vslots m
   unfolding vslots
   vslots-alike =
@@ -251,6 +293,21 @@ module _ (to back : ℕ → ℕ) (m n : Mem) (r : IsRenamed to back m n) where
 
   pub CanSettle-alike : (b : ℕ) → CanSettle b m → CanSettle b n
   CanSettle-alike b h = record { block = IsBlock-alike b h.block; top = HasLinkOnTop-alike b h.top; falling_room = HasFallingRoom-alike b h.falling_room }
+
+  pub CanTurn-alike : (b k : ℕ) → CanTurn b k m → CanTurn b k n
+  CanTurn-alike b k h = record { block = IsBlock-alike b h.block; enough = omega (arith, h.enough, temps_length b) }
+
+  pub CanAppend-alike : (b : ℕ) (p : Place) → CanAppend b p m → CanAppend b p n
+  CanAppend-alike b p h = record {
+    block = IsBlock-alike b h.block;
+    place = IsPlace-alike p h.place;
+    below_top = h.below_top;
+    before = h.before;
+    behind = h.behind;
+    there = found-renamed p ∙ ap (map_if (renamed_content to)) h.there;
+    top = nth_temp-renamed to back m n r b 0 ∙ ap (map_if (renamed_item to)) h.top;
+    short = h.short;
+  }
 
   pub CanPass-alike : (b c : ℕ) → CanPass b c m → CanPass b c n
   CanPass-alike b c h = record { from_block = IsBlock-alike b h.from_block; to_block = IsBlock-alike c h.to_block; top = HasTemp-alike b h.top; room = HasRoom-alike c h.room }

@@ -3,8 +3,8 @@ use Rattle.php_memdef.specs.Contents.{Mem}
 use Rattle.php_memdef.specs.Sound.{IsClosed}
 use Rattle.php_memdef.specs.Operations.{Operation, effect}
 use Rattle.php_memdef.specs.Operations as op
-use Rattle.php_memdef_laws.proofs.Closed.Temporaries.{enter-closed, leave-closed, push-closed, push_array-closed, push_object-closed, pass-closed, drop_top-closed, copy-closed, settle-closed}
-use Rattle.php_memdef_laws.proofs.Closed.Writes.{assign-closed, make_link-closed, bind-closed, unset-closed, unset_last-closed, forget-closed, shed-closed, make_object-closed, clone_object-closed, finish-closed, spare-closed, attach-closed}
+use Rattle.php_memdef_laws.proofs.Closed.Temporaries.{turn-closed, reserve-closed, enter-closed, leave-closed, push-closed, push_array-closed, push_object-closed, pass-closed, drop_top-closed, copy-closed, settle-closed}
+use Rattle.php_memdef_laws.proofs.Closed.Writes.{assign-closed, append-closed, make_link-closed, bind-closed, unset-closed, unset_last-closed, forget-closed, shed-closed, make_object-closed, clone_object-closed, finish-closed, spare-closed, attach-closed}
 use Rattle.php_memdef_laws.proofs.Closed.Releases.{fall-closed}
 
 pub effect-closed : (o : Operation) (m : Mem) → IsClosed m → IsClosed (effect o m)
@@ -19,6 +19,9 @@ effect-closed (op.link b from) m closed = make_link-closed m closed b from
 effect-closed (op.bind b to) m closed = bind-closed m closed b to
 effect-closed (op.settle b) m closed = settle-closed m closed b
 effect-closed (op.pass b c) m closed = pass-closed m closed b c
+effect-closed (op.turn b n) m closed = turn-closed m closed b n
+effect-closed (op.reserve b n) m closed = reserve-closed m closed b n
+effect-closed (op.append b to) m closed = append-closed m closed b to
 effect-closed (op.unset b at) m closed = unset-closed m closed b at
 effect-closed (op.unset_last b at) m closed = unset_last-closed m closed b at
 effect-closed (op.forget b n) m closed = forget-closed m closed b n

@@ -1,5 +1,5 @@
 -- The operations lead from memories in which every named store is there to such memories.
-use Rattle.std.proofs.Common.{◌≡◌, ℕ, List, [], ◌∷◌, ◌++◌, refl, sym, subst}
+use Rattle.std.proofs.Common.{◌≡◌, ℕ, zero, suc, ◌+◌, List, [], ◌∷◌, ◌++◌, refl, sym, subst}
 use Rattle.std.specs.Prelude.{Option, Some, None}
 use Rattle.php_value.specs.declared.scalar.Scalar.{Scalar}
 use Rattle.php_value.specs.declared.scalar.Scalar.TheVariants as scalar
@@ -9,7 +9,7 @@ use Rattle.php_memdef.specs.Contents.{Content, null, truth, int, text, array, ob
 use Rattle.php_memdef.specs.Holders.{stores_of_content, stores_of_item, stores_of_items, stores_of_variables, stores_of_scope}
 use Rattle.php_memdef.specs.Copies.{Copy, copied}
 use Rattle.php_memdef.specs.Places.{Spot, content_at, with_scope, find_place}
-use Rattle.php_memdef.specs.Temporaries.{content_of_scalar, with_temps, with_falling, pushed, rest_of, popped, top_of, top, fallen, let_fall, enter, leave, push, push_array, push_object, pass, drop_top, pushed_copy, copy_of_spot, copy, settled, settle}
+use Rattle.php_memdef.specs.Temporaries.{content_of_scalar, with_temps, with_falling, pushed, rest_of, popped, top_of, top, with_top, turned, turn, reserve, fallen, let_fall, enter, leave, push, push_array, push_object, pass, drop_top, pushed_copy, copy_of_spot, copy, settled, settle}
 use Rattle.php_memdef.specs.Sound.{Every, IsLive, IsClosed}
 use Rattle.php_memdef_laws.proofs.NumberedLemmas.{all-with}
 use Rattle.php_memdef_laws.proofs.Alike.Renamings.{Every-append, Every-front, Every-back}
@@ -40,6 +40,11 @@ fallen_named P (value (object k)) h = tt
 rest_named : (P : ℕ → Type 0) (is : List Item) → Every P (stores_of_items is) → Every P (stores_of_items (rest_of is))
 rest_named P [] h = tt
 rest_named P (i ∷ is) h = Every-back P (stores_of_item i) (stores_of_items is) h
+
+turned_named : (P : ℕ → Type 0) (n : ℕ) (is before : List Item) → Every P (stores_of_items is) → Every P (stores_of_items before) → Every P (stores_of_items (turned n is before))
+turned_named P zero is before h k = items_joined P before is k h
+turned_named P (suc n) [] before h k = k
+turned_named P (suc n) (i ∷ is) before h k = turned_named P n is (i ∷ before) (Every-back P (stores_of_item i) (stores_of_items is) h) (Every-append P (stores_of_item i) (stores_of_items before) (Every-front P (stores_of_item i) (stores_of_items is) h) k)
 
 top_named : (P : ℕ → Type 0) (is : List Item) → Every P (stores_of_items is) → Every P (stores_of_item (top_of is))
 top_named P [] h = tt
@@ -101,6 +106,17 @@ module _ (m : Mem) (closed : IsClosed m) where
   pub push_object-closed : (b h : ℕ) → IsClosed (push_object m b h)
   unfolding push_object
   push_object-closed b h = pushed-closed m closed b (value (object h)) tt
+
+  pub text_on_top-closed : (b : ℕ) (bytes : List ℕ) → IsClosed (with_top m b (value (text bytes)))
+  text_on_top-closed b bytes = with_temps-closed m closed b (value (text bytes) ∷ rest_of (scope_of m b).temps) (rest_named (IsLive m) (scope_of m b).temps (temps-closed m closed b))
+
+  pub turn-closed : (b n : ℕ) → IsClosed (turn m b n)
+  unfolding turn
+  turn-closed b n = with_temps-closed m closed b (turned n (scope_of m b).temps []) (turned_named (IsLive m) n (scope_of m b).temps [] (temps-closed m closed b) tt)
+
+  pub reserve-closed : (b n : ℕ) → IsClosed (reserve m b n)
+  unfolding reserve
+  reserve-closed b n = with_scope-closed m closed b (record (scope_of m b) { room = (scope_of m b).room + n }) (scope_named (IsLive m) (record (scope_of m b) { room = (scope_of m b).room + n }) (variables-closed m closed b) (temps-closed m closed b) (falling-closed m closed b))
 
   pub pass-closed : (b c : ℕ) → IsClosed (pass m b c)
   unfolding pass

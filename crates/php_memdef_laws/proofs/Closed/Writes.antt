@@ -1,5 +1,5 @@
 -- Writes and removals lead from memories in which every named store is there to such memories.
-use Rattle.std.proofs.Common.{◌≡◌, ℕ, List, [], ◌∷◌, refl, cond}
+use Rattle.std.proofs.Common.{◌≡◌, ℕ, List, [], ◌∷◌, ◌++◌, refl, cond}
 use Rattle.std.specs.Prelude.{Bool, true, false, nat_eq, Option, Some, None}
 use Rattle.php_value.specs.declared.key.Key.{Key}
 use Rattle.php_entries.specs.Keys.{key_eq}
@@ -15,8 +15,9 @@ use Rattle.php_memdef.specs.Numbered.{numbered}
 use Rattle.php_memdef.specs.Contents.{Content, null, truth, int, text, array, object, Item, value, link, Variable, Property, Object, Mem, scope_of, object_of}
 use Rattle.php_memdef.specs.Holders.{stores_of_entries, stores_of_content, stores_of_item, stores_of_variables, stores_of_properties}
 use Rattle.php_memdef.specs.Places.{Spot, stored, standing, content_at, with_content, variable_store, property_store, prop_name_eq, base_spot, elements_of, elements_to_write, step_store, step_set, spot_along, find_place, Walk, reached, stopped, walk}
-use Rattle.php_memdef.specs.Temporaries.{pushed, popped, top, let_fall}
-use Rattle.php_memdef.specs.Writes.{moved_in, assigned, assign, linked, make_link, Bound, bound, unbound, steps_before, last_step, element_bound, bound_in_elements, element_of_walk_bound, with_variable, with_property, base_bound, bound_at, finish_bind, bind_top, bind, without_variable, without_property, variable_removed, property_removed, element_removed, removed_in_elements, removed_at_spot, base_removed, removed_at, unset, last_removed, last_removed_in, last_removed_at, unset_last, forget, shed_first, shed}
+use Rattle.php_memdef.specs.Temporaries.{pushed, popped, top, with_top, let_fall}
+use Rattle.php_memdef.specs.Views.{found}
+use Rattle.php_memdef.specs.Writes.{moved_in, assigned, assign, text_found, text_of_item, append, linked, make_link, Bound, bound, unbound, steps_before, last_step, element_bound, bound_in_elements, element_of_walk_bound, with_variable, with_property, base_bound, bound_at, finish_bind, bind_top, bind, without_variable, without_property, variable_removed, property_removed, element_removed, removed_in_elements, removed_at_spot, base_removed, removed_at, unset, last_removed, last_removed_in, last_removed_at, unset_last, forget, shed_first, shed}
 use Rattle.php_memdef.specs.Objects.{new_object, with_new_object, object_made, make_object, clone_made, clone_of_top, clone_object, finish, spare, attach}
 use Rattle.php_memdef.specs.Copies.{copied_properties, copier_of}
 use Rattle.php_memdef.specs.Sound.{Every, IsLive, IsClosed}
@@ -25,7 +26,7 @@ use Rattle.php_memdef_laws.proofs.Alike.Memories.{Alike-refl}
 use Rattle.php_memdef_laws.proofs.Closed.Parts.{IfFound, variable-found, property-found, step-found, GrowthNames, step_set-names, IsSpotLive, object-closed, variables-closed, content_at-closed, with_object-closed, with_static-closed, live-with_content, with_content-closed}
 use Rattle.php_memdef_laws.proofs.Alike.Walks.{WalksAlike, walk-alike, top_link-live}
 use Rattle.php_memdef_laws.proofs.Alike.Copies.{copiers-alike, copied_properties-alike, start_of_making}
-use Rattle.php_memdef_laws.proofs.Closed.Temporaries.{pushed-closed, popped-closed, top-live, let_fall-closed, with_variables-closed}
+use Rattle.php_memdef_laws.proofs.Closed.Temporaries.{text_on_top-closed, pushed-closed, popped-closed, top-live, let_fall-closed, with_variables-closed}
 
 -- a walk reaches a closed memory and a spot that is there
 abbrev WalkClosed : Mem → Walk → Type 0
@@ -323,3 +324,10 @@ module _ (m : Mem) (closed : IsClosed m) where
   pub clone_object-closed : (b : ℕ) → IsClosed (clone_object m b).0
   unfolding clone_object
   clone_object-closed b = clone_of_top-closed (top m b) b
+
+module _ (m : Mem) (closed : IsClosed m) where
+  pub append-closed : (b : ℕ) (p : Place) → IsClosed (append m b p)
+  unfolding append
+  append-closed b p =
+      let bytes : List ℕ = text_found (found m p) ++ text_of_item (top m b) in
+      assign-closed (with_top m b (value (text bytes))) (text_on_top-closed m closed b bytes) b p

@@ -3,9 +3,9 @@ use Rattle.php_memdef.specs.Contents.{Mem}
 use Rattle.php_memdef.specs.Sound.{IsFormed}
 use Rattle.php_memdef.specs.Operations.{Operation, Can, effect}
 use Rattle.php_memdef.specs.Operations as op
-use Rattle.php_memdef_laws.proofs.Formed.Parts.{enter-formed, leave-formed, push-formed, push_array-formed, push_object-formed, pass-formed, drop_top-formed}
+use Rattle.php_memdef_laws.proofs.Formed.Parts.{turn-formed, reserve-formed, enter-formed, leave-formed, push-formed, push_array-formed, push_object-formed, pass-formed, drop_top-formed}
 use Rattle.php_memdef_laws.proofs.Formed.Copies.{copy-formed, settle-formed}
-use Rattle.php_memdef_laws.proofs.Formed.Writes.{assign-formed, make_link-formed, bind-formed, unset-formed, unset_last-formed, forget-formed, shed-formed}
+use Rattle.php_memdef_laws.proofs.Formed.Writes.{assign-formed, append-formed, make_link-formed, bind-formed, unset-formed, unset_last-formed, forget-formed, shed-formed}
 use Rattle.php_memdef_laws.proofs.Formed.Releases.{fall-formed, make_object-formed, clone_object-formed, finish-formed, spare-formed, attach-formed}
 
 pub effect-formed : (o : Operation) (m : Mem) → IsFormed m → Can o m → IsFormed (effect o m)
@@ -20,6 +20,9 @@ effect-formed (op.link b from) m formed can = make_link-formed m formed b from c
 effect-formed (op.bind b to) m formed can = bind-formed m formed b to can
 effect-formed (op.settle b) m formed can = settle-formed m formed b
 effect-formed (op.pass b c) m formed can = pass-formed m formed b c can
+effect-formed (op.turn b n) m formed can = turn-formed m formed b n
+effect-formed (op.reserve b n) m formed can = reserve-formed m formed b n
+effect-formed (op.append b to) m formed can = append-formed m formed b to can
 effect-formed (op.unset b at) m formed can = unset-formed m formed b at can.place
 effect-formed (op.unset_last b at) m formed can = unset_last-formed m formed b at
 effect-formed (op.forget b n) m formed can = forget-formed m formed b n

@@ -1,5 +1,5 @@
 -- Changes that leave each part of a memory as it should be.
-use Rattle.std.proofs.Common.{◌≡◌, ℕ, zero, suc, ◌<◌, ◌≤◌, List, [], ◌∷◌, ◌++◌, length, refl, sym, ◌∙◌, ap, subst, arith, inl, inr, cond}
+use Rattle.std.proofs.Common.{◌≡◌, ℕ, zero, suc, ◌+◌, ◌<◌, ◌≤◌, List, [], ◌∷◌, ◌++◌, length, refl, sym, ◌∙◌, ap, subst, arith, inl, inr, cond}
 use Rattle.std.specs.Prelude.{Bool, true, false, ◌&&◌, nat_eq, Option, Some, None, is_some, unwrap_or}
 use Rattle.std.specs.Cmp.Lexicographic.{pointwise}
 use Rattle.std.proofs.lemmas.Bool.{cases_Bool}
@@ -16,10 +16,11 @@ use Rattle.php_memdef.specs.declared.place.PropName.{PropName}
 use Rattle.php_memdef.specs.Numbered.{Numbered, numbered, with_numbered, with_next}
 use Rattle.php_memdef.specs.Contents.{Content, null, truth, int, text, array, object, Item, value, link, Variable, Scope, Property, Object, Mem, no_scope, no_object, content_of, scope_of, object_of}
 use Rattle.php_memdef.specs.Places.{Spot, stored, standing, nth_item, with_nth_item, content_if, content_at, with_content, with_scope, with_new_store, variable_store, property_store, seen_eq, prop_name_eq}
-use Rattle.php_memdef.specs.Temporaries.{content_of_scalar, with_temps, with_falling, pushed, rest_of, popped, top_of, top, fallen, let_fall, enter, leave, push, push_array, push_object, pass, drop_top}
+use Rattle.php_memdef.specs.Temporaries.{content_of_scalar, with_temps, with_falling, pushed, rest_of, popped, top_of, top, with_top, turned, turn, reserve, fallen, let_fall, enter, leave, push, push_array, push_object, pass, drop_top}
 use Rattle.php_memdef.specs.Writes.{with_variable, with_property, without_variable, without_property}
 use Rattle.php_memdef.specs.Sound.{IsShort, IsSoundContent, AreSoundItems, HasNoVariable, AreVariablesDistinct, HasNoProperty, ArePropertiesDistinct, AreNamesShort, IsSoundScope, IsSoundObject, IsFormed}
 use Rattle.php_memdef.specs.Conditions.{HasRoom, IsScalarWithin, CanLeave, CanPush, CanPushArray, CanPushObject, CanPass}
+use Rattle.php_memdef_laws.proofs.AppendLemmas.{same_length}
 use Rattle.php_memdef_laws.proofs.NumberedLemmas.{numbered-with_same, numbered-with_other, with_next-numbered, all-with, live-with}
 
 -- tests of names are symmetric
@@ -169,6 +170,21 @@ rest_sound : (is : List Item) → AreSoundItems is → AreSoundItems (rest_of is
 rest_sound [] h = tt
 rest_sound (value c ∷ is) h = h.1
 rest_sound (link s ∷ is) h = h
+
+turned_sound : (n : ℕ) (is before : List Item) → AreSoundItems is → AreSoundItems before → AreSoundItems (turned n is before)
+turned_sound zero is before h k = items_joined before is k h
+turned_sound (suc n) [] before h k = k
+turned_sound (suc n) (value c ∷ is) before h k = turned_sound n is (value c ∷ before) h.1 (h.0, k)
+turned_sound (suc n) (link s ∷ is) before h k = turned_sound n is (link s ∷ before) h k
+
+length_joined : (is js : List Item) → length (is ++ js) ≡ length is + length js
+length_joined [] js = omega arith
+length_joined (i ∷ is) js = omega (arith, length_joined is js)
+
+turned_length : (n : ℕ) (is before : List Item) → length (turned n is before) ≡ length is + length before
+turned_length zero is before = omega (arith, length_joined before is)
+turned_length (suc n) [] before = omega arith
+turned_length (suc n) (i ∷ is) before = omega (arith, turned_length n is (i ∷ before))
 
 pub rest_shorter : (is : List Item) → length (rest_of is) ≤ length is
 rest_shorter [] = omega arith
@@ -347,6 +363,25 @@ module _ (m : Mem) (formed : IsFormed m) where
   pub push_object-formed : (b h : ℕ) → CanPushObject b h m → IsFormed (push_object m b h)
   unfolding push_object
   push_object-formed b h can = pushed-formed m formed b (value (object h)) tt can.room
+
+  pub text_on_top-formed : (b : ℕ) (i : Item) (bytes : List ℕ) → nth_item (scope_of m b).temps 0 ≡ Some i → IsShort bytes → IsFormed (with_top m b (value (text bytes)))
+  text_on_top-formed b i bytes e short =
+      let p = scope-sound m formed b in
+      with_temps-formed m formed b (value (text bytes) ∷ rest_of (scope_of m b).temps) (short, rest_sound (scope_of m b).temps p.temps)
+      (omega (arith, p.temps_within, same_length (scope_of m b).temps i (value (text bytes)) e))
+
+  pub turn-formed : (b n : ℕ) → IsFormed (turn m b n)
+  unfolding turn
+  turn-formed b n =
+      let p = scope-sound m formed b in
+      let is = (scope_of m b).temps in
+      with_temps-formed m formed b (turned n is []) (turned_sound n is [] p.temps tt) (omega (arith, p.temps_within, turned_length n is []))
+
+  pub reserve-formed : (b n : ℕ) → IsFormed (reserve m b n)
+  unfolding reserve
+  reserve-formed b n =
+      let p = scope-sound m formed b in
+      with_scope-formed m formed b (record (scope_of m b) { room = (scope_of m b).room + n }) (record { variables_distinct = p.variables_distinct; temps = p.temps; falling = p.falling; temps_within = omega (arith, p.temps_within) })
 
   pub pass-formed : (b c : ℕ) → CanPass b c m → IsFormed (pass m b c)
   unfolding pass

@@ -27,7 +27,7 @@ property_links_sound : (ps : List Property) → AreSoundItems (property_links ps
 property_links_sound [] = tt
 property_links_sound (p ∷ ps) = property_links_sound ps
 
-abbrev TurnFormed : Turn → Type 0
+abbrev pub TurnFormed : Turn → Type 0
 TurnFormed (goes_on m) = IsFormed m
 TurnFormed (stops m answer) = IsFormed m
 
@@ -103,7 +103,7 @@ rest_of_sound : (i : Item) (rest : List Item) → AreSoundItems (i ∷ rest) →
 rest_of_sound (value c) rest h = h.1
 rest_of_sound (link s) rest h = h
 
-first_released-formed : (m : Mem) → IsFormed m → (b : ℕ) (is : List Item) → AreSoundItems is → TurnFormed (first_released is m b)
+pub first_released-formed : (m : Mem) → IsFormed m → (b : ℕ) (is : List Item) → AreSoundItems is → TurnFormed (first_released is m b)
 first_released-formed m formed b [] h = formed
 first_released-formed m formed b (i ∷ rest) h = item_released-formed m formed b rest (rest_of_sound i rest h) i
 

@@ -11,14 +11,16 @@ use Rattle.php_memdef.specs.declared.place.Step.{Step}
 use Rattle.php_memdef.specs.declared.place.Step.TheVariants.{At, Push}
 use Rattle.php_memdef.specs.declared.place.Place.{Place}
 use Rattle.php_memdef.specs.Numbered.{numbered, with_numbered}
-use Rattle.php_memdef.specs.Contents.{Content, null, array, Item, value, link, Variable, Scope, Object, Mem, no_scope, no_object, scope_of, object_of}
+use Rattle.php_memdef.specs.Contents.{Content, null, text, array, Item, value, link, Variable, Scope, Object, Mem, no_scope, no_object, scope_of, object_of}
 use Rattle.php_memdef.specs.Places.{Spot, stored, standing, nth_item, with_nth_item, content_at, with_content, with_scope, with_object, with_new_store, new_store_number, variable_store, property_store, temp_spot, base_spot, elements_of, elements_to_write, step_store, step_set, spot_along, find_place, Walk, reached, stopped, element_made, element_to_write, step_in_elements, walk_step, walk_along, variable_to_write, property_to_write, static_to_write, temp_to_write, base_to_write, walk}
-use Rattle.php_memdef.specs.Temporaries.{popped, top}
-use Rattle.php_memdef.specs.Writes.{moved_in, assigned, assign, linked, make_link, Bound, bound, unbound, steps_before, last_step, element_bound, bound_in_elements, element_of_walk_bound, with_variable, with_property, base_bound, bound_at, finish_bind, bind_top, bind, without_variable, without_property, variable_removed, property_removed, element_removed, removed_in_elements, removed_at_spot, base_removed, removed_at, unset, last_removed, last_removed_in, last_removed_at, unset_last, forget, shed_first, shed}
+use Rattle.php_memdef.specs.Temporaries.{popped, top, with_top}
+use Rattle.php_memdef.specs.Views.{found}
+use Rattle.php_memdef.specs.Writes.{moved_in, assigned, assign, text_found, text_of_item, append, linked, make_link, Bound, bound, unbound, steps_before, last_step, element_bound, bound_in_elements, element_of_walk_bound, with_variable, with_property, base_bound, bound_at, finish_bind, bind_top, bind, without_variable, without_property, variable_removed, property_removed, element_removed, removed_in_elements, removed_at_spot, base_removed, removed_at, unset, last_removed, last_removed_in, last_removed_at, unset_last, forget, shed_first, shed}
 use Rattle.php_memdef.specs.Sound.{IsShort, IsSoundContent, AreVariablesDistinct, IsSoundObject, IsFormed}
-use Rattle.php_memdef.specs.Conditions.{IsObject, HasRoom, IsBase, IsPlace, AreStepsWithin, CanAssign, CanLink, CanBind}
+use Rattle.php_memdef.specs.Conditions.{IsObject, HasRoom, IsBase, IsPlace, AreStepsWithin, CanAssign, CanAppend, CanLink, CanBind}
+use Rattle.php_memdef_laws.proofs.AppendLemmas.{joined_is, can_assign_joined}
 use Rattle.php_memdef_laws.proofs.NumberedLemmas.{numbered-with_same, numbered-with_other, all-with}
-use Rattle.php_memdef_laws.proofs.Formed.Parts.{IsSoundItem, some_same, scope-sound, object-sound, content_at-sound, with_new_store-formed, with_content-formed, with_statics-formed, with_variables-formed, pushed-formed, popped-formed, top-sound, let_fall-formed, variables_added, variables_with, variables_without, properties_added, properties_with, properties_without, names_added, names_with, names_without}
+use Rattle.php_memdef_laws.proofs.Formed.Parts.{IsSoundItem, text_on_top-formed, some_same, scope-sound, object-sound, content_at-sound, with_new_store-formed, with_content-formed, with_statics-formed, with_variables-formed, pushed-formed, popped-formed, top-sound, let_fall-formed, variables_added, variables_with, variables_without, properties_added, properties_with, properties_without, names_added, names_with, names_without}
 use Rattle.php_memdef_laws.proofs.Formed.Copies.{IsStepFit, GrowthSound, step_set-sound, remove-sound, pop-sound, ElementsSound, elements-sound, written_elements-sound}
 
 -- a change of one object that gives it no new frame
@@ -288,3 +290,11 @@ module _ (m : Mem) (formed : IsFormed m) where
   pub shed-formed : (b : ℕ) → IsFormed (shed m b).0
   unfolding shed
   shed-formed b = shed_first-formed (scope_of m b).variables b (scope-sound m formed b).variables_distinct
+
+module _ (m : Mem) (formed : IsFormed m) where
+  pub append-formed : (b : ℕ) (p : Place) → CanAppend b p m → IsFormed (append m b p)
+  unfolding append
+  append-formed b p can =
+      let bytes : List ℕ = text_found (found m p) ++ text_of_item (top m b) in
+      let short : IsShort bytes = subst (λ (xs : List ℕ). IsShort xs) (sym (joined_is m b p can)) can.short in
+      assign-formed (with_top m b (value (text bytes))) (text_on_top-formed m formed b (value (text can.behind)) bytes can.top short) b p (can_assign_joined m b p can bytes)

@@ -5,9 +5,9 @@ use Rattle.php_memdef.specs.Operations.{Operation, Can, effect}
 use Rattle.php_memdef.specs.Operations as op
 use Rattle.php_memdef_laws.proofs.Closed.Operations.{effect-closed}
 use Rattle.php_memdef_laws.proofs.Formed.Operations.{effect-formed}
-use Rattle.php_memdef_laws.proofs.Held.Temporaries.{enter-held, push-held, push_array-held, push_object-held, pass-held, drop_top-held}
+use Rattle.php_memdef_laws.proofs.Held.Temporaries.{turn-held, reserve-held, enter-held, push-held, push_array-held, push_object-held, pass-held, drop_top-held}
 use Rattle.php_memdef_laws.proofs.Held.Copies.{leave-held, copy-held, settle-held, make_object-held, clone_object-held}
-use Rattle.php_memdef_laws.proofs.Held.Writes.{assign-held, make_link-held}
+use Rattle.php_memdef_laws.proofs.Held.Writes.{assign-held, append-held, make_link-held}
 use Rattle.php_memdef_laws.proofs.Held.Binds.{bind-held}
 use Rattle.php_memdef_laws.proofs.Held.Removals.{unset-held, unset_last-held, forget-held, shed-held}
 use Rattle.php_memdef_laws.proofs.Held.Releases.{fall-held, finish-held, spare-held, attach-held}
@@ -24,6 +24,9 @@ effect-held (op.link b from) m held closed formed can = make_link-held m closed 
 effect-held (op.bind b to) m held closed formed can = bind-held m closed held b to can
 effect-held (op.settle b) m held closed formed can = settle-held m held b
 effect-held (op.pass b c) m held closed formed can = pass-held m held b c
+effect-held (op.turn b n) m held closed formed can = turn-held m held b n
+effect-held (op.reserve b n) m held closed formed can = reserve-held m held b n
+effect-held (op.append b to) m held closed formed can = append-held m closed held b to can
 effect-held (op.unset b at) m held closed formed can = unset-held m closed held b at can.place
 effect-held (op.unset_last b at) m held closed formed can = unset_last-held m closed held b at
 effect-held (op.forget b n) m held closed formed can = forget-held m closed held b n

@@ -1,12 +1,12 @@
 -- How changes move the holders of stores and of objects.
-use Rattle.std.proofs.Common.{◌≡◌, ℕ, ◌+◌, ◌<◌, ◌≤◌, List, [], ◌∷◌, ◌++◌, length, refl, sym, ap, arith, ◌⊎◌, inl, inr, cond}
+use Rattle.std.proofs.Common.{◌≡◌, ℕ, zero, suc, ◌+◌, ◌<◌, ◌≤◌, List, [], ◌∷◌, ◌++◌, length, refl, sym, ap, arith, ◌⊎◌, inl, inr, cond}
 use Rattle.std.specs.Prelude.{Option, Some, None, unwrap_or}
 use Rattle.std.proofs.lemmas.Bool.Decides.{eqb_tells}
 use Rattle.php_memdef.specs.Numbered.{numbered, with_numbered, with_next, weight_if, total}
 use Rattle.php_memdef.specs.Contents.{Content, null, truth, int, text, array, object, Item, value, link, Variable, Scope, Object, Mem, no_scope, no_object, content_of, scope_of, object_of}
 use Rattle.php_memdef.specs.Holders.{times, stores_of_content, stores_of_item, stores_of_items, stores_of_variables, stores_of_scope, stores_of_object, holders, handles_of_content, handles_of_items, handles_of_scope, object_holders}
 use Rattle.php_memdef.specs.Places.{with_scope, with_new_store}
-use Rattle.php_memdef.specs.Temporaries.{with_temps, with_falling, pushed, rest_of, popped, top_of, top, fallen, let_fall}
+use Rattle.php_memdef.specs.Temporaries.{with_temps, with_falling, pushed, rest_of, popped, top_of, top, with_top, turned, turn, fallen, let_fall}
 use Rattle.php_memdef.specs.Sound.{IsLive, IsHeld}
 use Rattle.php_memdef.specs.Conditions.{IsObject}
 use Rattle.php_memdef_laws.proofs.NumberedLemmas.{numbered-length, with_next-numbered, total-with}
@@ -125,6 +125,16 @@ module _ (s : ℕ) where
   fallen_handles (value (array t)) = refl
   fallen_handles (value (object h)) = omega (arith, item_handles (value (object h)) [])
 
+  turned_times : (n : ℕ) (is before : List Item) → times s (stores_of_items (turned n is before)) ≡ times s (stores_of_items is) + times s (stores_of_items before)
+  turned_times zero is before = omega (arith, items_times before is)
+  turned_times (suc n) [] before = omega arith
+  turned_times (suc n) (i ∷ is) before = omega (arith, turned_times n is (i ∷ before), item_times i before, item_times i is)
+
+  turned_handles : (n : ℕ) (is before : List Item) → times s (handles_of_items (turned n is before)) ≡ times s (handles_of_items is) + times s (handles_of_items before)
+  turned_handles zero is before = omega (arith, items_handles before is)
+  turned_handles (suc n) [] before = omega arith
+  turned_handles (suc n) (i ∷ is) before = omega (arith, turned_handles n is (i ∷ before), item_handles i before, item_handles i is)
+
   rest_times : (is : List Item) → times s (stores_of_items is) ≡ times s (stores_of_item (top_of is)) + times s (stores_of_items (rest_of is))
   rest_times [] = refl
   rest_times (i ∷ is) = item_times i is
@@ -157,6 +167,20 @@ module _ (m : Mem) (s : ℕ) (b : ℕ) where
 
   pub handles-pushed : (i : Item) → object_holders (pushed m b i) s ≡ object_holders m s + times s (handles_of_item i)
   handles-pushed i = omega (arith, handles-with_temps (i ∷ (scope_of m b).temps), item_handles s i (scope_of m b).temps)
+
+  pub holders-with_top : (i : Item) → holders (with_top m b i) s + times s (stores_of_item (top m b)) ≡ holders m s + times s (stores_of_item i)
+  holders-with_top i = omega (arith, holders-with_temps (i ∷ rest_of (scope_of m b).temps), item_times s i (rest_of (scope_of m b).temps), rest_times s (scope_of m b).temps)
+
+  pub handles-with_top : (i : Item) → object_holders (with_top m b i) s + times s (handles_of_item (top m b)) ≡ object_holders m s + times s (handles_of_item i)
+  handles-with_top i = omega (arith, handles-with_temps (i ∷ rest_of (scope_of m b).temps), item_handles s i (rest_of (scope_of m b).temps), rest_handles s (scope_of m b).temps)
+
+  pub holders-turned : (n : ℕ) → holders (turn m b n) s ≡ holders m s
+  unfolding turn
+  holders-turned n = omega (arith, holders-with_temps (turned n (scope_of m b).temps []), turned_times s n (scope_of m b).temps [])
+
+  pub handles-turned : (n : ℕ) → object_holders (turn m b n) s ≡ object_holders m s
+  unfolding turn
+  handles-turned n = omega (arith, handles-with_temps (turned n (scope_of m b).temps []), turned_handles s n (scope_of m b).temps [])
 
   pub holders-popped : holders (popped m b) s + times s (stores_of_item (top m b)) ≡ holders m s
   holders-popped = omega (arith, holders-with_temps (rest_of (scope_of m b).temps), rest_times s (scope_of m b).temps)

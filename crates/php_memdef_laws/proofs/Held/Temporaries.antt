@@ -1,18 +1,18 @@
 -- The operations on blocks and temporaries keep what is there held.
-use Rattle.std.proofs.Common.{◌≡◌, ℕ, ◌+◌, [], ◌∷◌, refl, sym, ap, subst, arith, inl, inr, cond}
+use Rattle.std.proofs.Common.{◌≡◌, ℕ, ◌+◌, List, [], ◌∷◌, refl, sym, ap, subst, arith, inl, inr, cond}
 use Rattle.std.specs.Prelude.{None, unwrap_or}
 use Rattle.std.proofs.lemmas.Bool.Decides.{eqb_tells}
 use Rattle.php_value.specs.declared.scalar.Scalar.{Scalar}
 use Rattle.php_value.specs.declared.scalar.Scalar.TheVariants as scalar
 use Rattle.php_entries.specs.Listing.{no_entries}
 use Rattle.php_memdef.specs.Numbered.{numbered}
-use Rattle.php_memdef.specs.Contents.{array, object, Item, value, Scope, Mem, no_scope, scope_of}
-use Rattle.php_memdef.specs.Holders.{times, stores_of_content, stores_of_scope, handles_of_content, handles_of_scope}
+use Rattle.php_memdef.specs.Contents.{text, array, object, Item, value, Scope, Mem, no_scope, scope_of}
+use Rattle.php_memdef.specs.Holders.{times, stores_of_content, stores_of_item, stores_of_scope, handles_of_content, handles_of_scope}
 use Rattle.php_memdef.specs.Places.{with_scope}
-use Rattle.php_memdef.specs.Temporaries.{content_of_scalar, pushed, popped, top, let_fall, enter, push, push_array, push_object, pass, drop_top}
-use Rattle.php_memdef.specs.Sound.{IsHeld}
+use Rattle.php_memdef.specs.Temporaries.{content_of_scalar, pushed, popped, top, with_top, turn, reserve, let_fall, enter, push, push_array, push_object, pass, drop_top}
+use Rattle.php_memdef.specs.Sound.{IsLive, IsHeld}
 use Rattle.php_memdef.specs.Conditions.{IsObject}
-use Rattle.php_memdef_laws.proofs.Held.Parts.{held_after, same_there, handles_of_item, holders-with_scope, handles-with_scope, holders-pushed, handles-pushed, holders-popped, handles-popped, holders-let_fall, handles-let_fall}
+use Rattle.php_memdef_laws.proofs.Held.Parts.{held_after, same_there, handles_of_item, holders-with_scope, handles-with_scope, holders-with_top, handles-with_top, holders-turned, handles-turned, holders-pushed, handles-pushed, holders-popped, handles-popped, holders-let_fall, handles-let_fall}
 
 scalar_names : (s : ℕ) (v : Scalar) → times s (stores_of_content (content_of_scalar v)) ≡ 0
 scalar_names s scalar.Null = refl
@@ -25,6 +25,19 @@ scalar_handles s scalar.Null = refl
 scalar_handles s (scalar.Bool b) = refl
 scalar_handles s (scalar.Int i) = refl
 scalar_handles s (scalar.Str bytes) = refl
+
+module _ (m : Mem) where
+  turned_stores : (b n s : ℕ) → IsLive (turn m b n) s → IsLive m s
+  unfolding turn
+  turned_stores b n s h = h
+
+  turned_objects : (b n h : ℕ) → IsObject (turn m b n) h → IsObject m h
+  unfolding turn
+  turned_objects b n h e = e
+
+  objects_turned : (b n h : ℕ) → IsObject m h → IsObject (turn m b n) h
+  unfolding turn
+  objects_turned b n h e = e
 
 module _ (m : Mem) (held : IsHeld m) where
   pub enter-held : (b room : ℕ) → numbered m.blocks b ≡ None → IsHeld (enter m b room)
@@ -64,6 +77,24 @@ module _ (m : Mem) (held : IsHeld m) where
         ];
         objects_stay = λ k e some. e;
       })
+
+  pub text_on_top-held : (b : ℕ) (before bytes : List ℕ) → top m b ≡ value (text before) → IsHeld (with_top m b (value (text bytes)))
+  text_on_top-held b before bytes e =
+      let n = with_top m b (value (text bytes)) in
+      let i : Item = value (text bytes) in
+      let none : (s : ℕ) → times s (stores_of_item (top m b)) ≡ 0 = λ s. ap (λ j. times s (stores_of_item j)) e in
+      let no_handle : (h : ℕ) → times h (handles_of_item (top m b)) ≡ 0 = λ h. ap (λ j. times h (handles_of_item j)) e in
+      held_after m n held (same_there m n (λ s h. h) (λ s. omega (arith, holders-with_top m s b i, none s)) (λ h e. e) (λ h e. e) (λ h. omega (arith, handles-with_top m h b i, no_handle h)))
+
+  pub turn-held : (b n : ℕ) → IsHeld (turn m b n)
+  turn-held b n = held_after m (turn m b n) held (same_there m (turn m b n) (turned_stores m b n) (λ s. omega (arith, holders-turned m s b n)) (turned_objects m b n) (objects_turned m b n) (λ h. handles-turned m h b n))
+
+  pub reserve-held : (b n : ℕ) → IsHeld (reserve m b n)
+  unfolding reserve
+  reserve-held b n =
+      let f : Scope = record (scope_of m b) { room = (scope_of m b).room + n } in
+      let k = with_scope m b f in
+      held_after m k held (same_there m k (λ s h. h) (λ s. omega (arith, holders-with_scope m s b f)) (λ h e. e) (λ h e. e) (λ h. omega (arith, handles-with_scope m h b f)))
 
   pub pass-held : (b c : ℕ) → IsHeld (pass m b c)
   unfolding pass

@@ -17,15 +17,19 @@ use Rattle.php_memdef.specs.Numbered.{Numbered, numbered, with_numbered, with_ne
 use Rattle.php_memdef.specs.Contents.{Content, null, truth, int, text, array, object, Item, value, link, Variable, Property, Object, Mem, no_scope, scope_of, object_of}
 use Rattle.php_memdef.specs.Holders.{times, stores_of_entries, stores_of_content, stores_of_item, stores_of_items, stores_of_variables, stores_of_properties, holders, handles_of_content, handles_of_items, object_holders}
 use Rattle.php_memdef.specs.Places.{Spot, stored, standing, nth_item, with_nth_item, content_if, content_at, with_content, with_scope, with_object, with_new_store, new_store_number, variable_store, property_store, temp_spot, elements_to_write, entry_store, step_store, step_set, Walk, reached, stopped, element_made, element_to_write, step_in_elements, walk_step, walk_along, variable_to_write, property_to_write, static_to_write, temp_to_write, base_to_write, walk}
-use Rattle.php_memdef.specs.Temporaries.{pushed, popped, top_of, top, let_fall}
-use Rattle.php_memdef.specs.Writes.{moved_in, assigned, assign, linked, make_link}
+use Rattle.php_memdef.specs.Temporaries.{pushed, popped, top_of, top, with_top, let_fall}
+use Rattle.php_memdef.specs.Writes.{moved_in, assigned, assign, text_found, text_of_item, append, linked, make_link}
+use Rattle.php_memdef.specs.Views.{found}
 use Rattle.php_memdef.specs.Sound.{IsLive, IsHeld}
-use Rattle.php_memdef.specs.Conditions.{IsObject, IsBase, CanAssign, CanLink}
+use Rattle.php_memdef.specs.Conditions.{IsObject, IsBase, CanAssign, CanAppend, CanLink}
 use Rattle.php_memdef_laws.proofs.NumberedLemmas.{numbered-with_same, numbered-with_other, numbered-length, with_next-numbered, live-with}
 use Rattle.php_memdef.specs.Sound.{IsClosed}
 use Rattle.php_memdef_laws.proofs.Alike.Memories.{Alike-refl}
 use Rattle.php_memdef_laws.proofs.Closed.Parts.{IfFound, variable-found, property-found, step-found, nth_link-found, variables-closed, temps-closed, object-closed, content_at-closed}
 use Rattle.php_memdef_laws.proofs.Alike.Walks.{WalksAlike, ElementsNamed, elements_named, base_to_write-alike, walk_on-alike}
+use Rattle.php_memdef_laws.proofs.AppendLemmas.{first_on_top, can_assign_joined}
+use Rattle.php_memdef_laws.proofs.Closed.Temporaries.{text_on_top-closed}
+use Rattle.php_memdef_laws.proofs.Held.Temporaries.{text_on_top-held}
 use Rattle.php_memdef_laws.proofs.Held.Parts.{held_after, handles_of_item, times-self, item_times, item_handles, holders-with_store, handles-with_store, holders-with_new, handles-with_new, holders-with_object, handles-with_object, holders-with_static, handles-with_static, holders-with_temps, handles-with_temps, holders-with_variables, handles-with_variables, holders-pushed, handles-pushed, holders-popped, handles-popped, holders-let_fall, handles-let_fall}
 
 -- more stores, each with a holder, and no holder less; the same objects with the same holders
@@ -374,7 +378,7 @@ found_live P None h s e = absurd (no e)
     no e = cc
 found_live P (Some t) h s e = let same : t ≡ s = cc in subst P same h
 
-nth_some : (is : List Item) (k : ℕ) → k < length is → IsSome (nth_item is k)
+pub nth_some : (is : List Item) (k : ℕ) → k < length is → IsSome (nth_item is k)
 nth_some [] k h = absurd (omega (arith, h))
 nth_some (i ∷ is) zero h = refl
 nth_some (i ∷ is) (suc k) h = nth_some is k (omega (arith, h))
@@ -465,3 +469,11 @@ module _ (m : Mem) (closed : IsClosed m) (held : IsHeld m) where
   pub make_link-held : (b : ℕ) (p : Place) → CanLink b p m → IsHeld (make_link m b p).0
   unfolding make_link
   make_link-held b p can = grown-held m (linked (walk m p.base p.path) m b).0 held (linked-grows m (walk m p.base p.path) (walk-held p.base p.path can.place.0) b)
+
+module _ (m : Mem) (closed : IsClosed m) (held : IsHeld m) where
+  pub append-held : (b : ℕ) (p : Place) → CanAppend b p m → IsHeld (append m b p)
+  unfolding append
+  append-held b p can =
+      let bytes : List ℕ = text_found (found m p) ++ text_of_item (top m b) in
+      let on_top = first_on_top (scope_of m b).temps (value (text can.behind)) can.top in
+      assign-held (with_top m b (value (text bytes))) (text_on_top-closed m closed b bytes) (text_on_top-held m held b can.behind bytes on_top) b p (can_assign_joined m b p can bytes)

@@ -1,4 +1,4 @@
-use Rattle.php_memdef_laws.proofs.Alike.Views.{Shows-alike, later_entry-alike, is_aliased-alike, temps_count-alike, vslots-alike, cost_of-alike, class_of-alike, property_name-alike, eldest-alike}
+use Rattle.php_memdef_laws.proofs.Alike.Views.{Shows-alike, later_entry-alike, is_aliased-alike, is_link-alike, steps_met-alike, end_met-alike, temps_count-alike, vslots-alike, cost_of-alike, class_of-alike, property_name-alike, eldest-alike}
 use Rattle.php_memdef_laws.proofs.views_respect_alike.Goals as goal
 
 pub returns-clause-peek : goal.returns-clause-peek
@@ -27,3 +27,12 @@ returns-clause-prop_at c h k m n a = property_name-alike a.to a.back m n a.renam
 
 pub returns-clause-eldest : goal.returns-clause-eldest
 returns-clause-eldest c m n a = eldest-alike a.to a.back m n a.renamed
+
+pub returns-clause-is_link : goal.returns-clause-is_link
+returns-clause-is_link c b k m n a = is_link-alike a.to a.back m n a.renamed b k
+
+pub returns-clause-steps_met : goal.returns-clause-steps_met
+returns-clause-steps_met c p m n a = steps_met-alike a.to a.back m n a.renamed p
+
+pub returns-clause-end_met : goal.returns-clause-end_met
+returns-clause-end_met c look p m n a h = end_met-alike a.to a.back m n a.renamed look p h

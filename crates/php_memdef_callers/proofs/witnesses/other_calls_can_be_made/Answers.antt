@@ -1,4 +1,4 @@
-use Rattle.php_memdef_callers.proofs.WitnessLemmas.{link_made, link_bound, link_settled, element_unset, last_unset}
+use Rattle.php_memdef_callers.proofs.WitnessLemmas.{link_made, link_bound, link_settled, element_unset, last_unset, text_appended}
 use Rattle.php_memdef_callers.proofs.witnesses.other_calls_can_be_made.Goals as goal
 
 pub returns-clause-link : goal.returns-clause-link
@@ -15,3 +15,6 @@ returns-clause-unset c = element_unset
 
 pub returns-clause-unset_last : goal.returns-clause-unset_last
 returns-clause-unset_last c = last_unset
+
+pub returns-clause-append : goal.returns-clause-append
+returns-clause-append c = text_appended

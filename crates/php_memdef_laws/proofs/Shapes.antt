@@ -1,0 +1,4 @@
+-- What operations make of the shapes of blocks.
+pub mod Parts
+pub mod Writes
+pub mod Operations

@@ -1,0 +1,3 @@
+pub mod Stops
+pub mod Readings
+pub mod Shapes
