@@ -12,7 +12,8 @@ use Rattle.php_actions.specs.declared.jumps.JumpAction.{JumpAction}
 use Rattle.php_actions.specs.declared.jumps.JumpAction.TheVariants.{Tick}
 use Rattle.php_actions.specs.Data.{Frame, Data, Move, Plan, with_mem, with_left, by_frame}
 use Rattle.php_actions.specs.Contents.{truth_of}
-use Rattle.php_actions.specs.Tests.{can_drop}
+use Rattle.php_memdef.specs.Operations as op
+use Rattle.php_memdef.specs.Deciders.{can}
 use Rattle.php_actions.specs.Steps.{operand}
 use Rattle.php_actions.specs.Jumps.{ticked, effect_jump}
 use Rattle.php_actions.specs.Effect.{effect_in, effect}
@@ -70,7 +71,7 @@ module _ (n : ℕ) where
 
   truth_in-allows : (d : Data) (fs : List Frame) → d.left ≤ n → SameTruth HasMoreTicks (truth_in d fs) (truth_in (with_left n d) fs)
   truth_in-allows d [] le = refl
-  truth_in-allows d (f ∷ fs) le = truth_by-allows (operand d.mem f.block 0) (can_drop d.mem f.block) f d le
+  truth_in-allows d (f ∷ fs) le = truth_by-allows (operand d.mem f.block 0) (can (op.drop_top f.block) d.mem) f d le
 
 -- what holds of the same data with n ticks left holds of any that has more
 with_more : (P : Data → Data → Type 0) (d e : Data) → ((n : ℕ) → d.left ≤ n → P d (with_left n d)) → HasMoreTicks d e → P d e

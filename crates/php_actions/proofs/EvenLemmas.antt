@@ -27,7 +27,7 @@ use Rattle.php_memdef.specs.declared.answer.Wrote.TheVariants.{Done, NotArray, F
 use Rattle.php_memdef.specs.declared.answer.Fallen.{Fallen}
 use Rattle.php_memdef.specs.declared.answer.Fallen.TheVariants.{Nothing, Destroy, Frame as FrameOf}
 use Rattle.php_memdef.specs.Contents.{Content, Item, value, link, Mem, scope_of}
-use Rattle.php_memdef.specs.Temporaries.{push, push_array, copy, settle, drop_top, pass, leave as leave_block}
+use Rattle.php_memdef.specs.Temporaries.{push, push_array, copy, settle, turn, drop_top, pass, leave as leave_block}
 use Rattle.php_memdef.specs.Writes.{assign, shed}
 use Rattle.php_memdef.specs.Releases.{fall}
 use Rattle.php_memdef.specs.Views.{temps_count, cost_of}
@@ -57,8 +57,9 @@ use Rattle.php_actions.specs.declared.jumps.JumpAction.{JumpAction}
 use Rattle.php_actions.specs.Data.{Frame, Data, Move, Plan, with_mem, with_left, with_newest, on, next_with}
 use Rattle.php_actions.specs.Errors.{class_of, message_of}
 use Rattle.php_actions.specs.Contents.{type_name, scalar_of, truth_of, text_of_content, number_of, is_null}
-use Rattle.php_actions.specs.Tests.{is_block, can_push, can_push_array, can_copy, can_assign, can_settle, can_shed, can_drop, can_turn, can_pass, can_leave}
-use Rattle.php_actions.specs.Steps.{temp, operand, turn, turned, drops, sink, trim, pushed, replaced, fault, throws, throws_about, stopped, blocking, throws_blocked, written, assigns, copied_or_pushed, read_as, reads}
+use Rattle.php_memdef.specs.Operations as op
+use Rattle.php_memdef.specs.Deciders.{can}
+use Rattle.php_actions.specs.Steps.{temp, operand, turned, drops, sink, trim, pushed, replaced, fault, throws, throws_about, stopped, blocking, throws_blocked, written, assigns, copied_or_pushed, read_as, reads}
 use Rattle.php_actions.specs.PlaceForms.{size, Steps, steps, refused, missing, steps_of, evaluated_count, variable, temporary, with_base, with_steps, with_place}
 use Rattle.php_actions.specs.Stack.{settled_if, tested, effect_stack}
 use Rattle.php_actions.specs.Places.{effect_place}
@@ -99,11 +100,11 @@ module _ (n : ℕ) (q : ℕ → List ℕ → Type 0) (R : Move → Move → Type
   next_with-R d h m = next (with_mem d m) h
 
   turned-R : (b k : ℕ) (m : Mem) (go too : Mem → Move) → ((m' : Mem) → R (go m') (too m')) → R (turned b k m go) (turned b k m too)
-  turned-R b k m go too h = on-R (can_turn m b k) (turn m b k) go too h
+  turned-R b k m go too h = on-R (can (op.turn b k) m) (turn m b k) go too h
 
   drops-R : (b k : ℕ) (m : Mem) (go too : Mem → Move) → ((m' : Mem) → R (go m') (too m')) → R (drops b k m go) (drops b k m too)
   drops-R b zero m go too h = h m
-  drops-R b (suc k) m go too h = on-R (can_drop m b) (drop_top m b) (λ m'. drops b k m' go) (λ m'. drops b k m' too) (λ m'. drops-R b k m' go too h)
+  drops-R b (suc k) m go too h = on-R (can (op.drop_top b) m) (drop_top m b) (λ m'. drops b k m' go) (λ m'. drops b k m' too) (λ m'. drops-R b k m' go too h)
 
   sink-R : (b k : ℕ) (m : Mem) (go too : Mem → Move) → ((m' : Mem) → R (go m') (too m')) → R (sink b k m go) (sink b k m too)
   sink-R b zero m go too h = h m
@@ -116,7 +117,7 @@ module _ (n : ℕ) (q : ℕ → List ℕ → Type 0) (R : Move → Move → Type
       (λ m'. turned-R b (suc k) m' (λ m''. drops b (suc k) m'' go) (λ m''. drops b (suc k) m'' too) (λ m''. drops-R b (suc k) m'' go too h))
 
   pushed-R : (b : ℕ) (v : Scalar) (m : Mem) (go too : Mem → Move) → ((m' : Mem) → R (go m') (too m')) → R (pushed b v m go) (pushed b v m too)
-  pushed-R b v m go too h = on-R (can_push m b v) (push m b v) go too h
+  pushed-R b v m go too h = on-R (can (op.push b v) m) (push m b v) go too h
 
   replaced-R : (b k : ℕ) (v : Scalar) (m : Mem) (go too : Mem → Move) → ((m' : Mem) → R (go m') (too m')) → R (replaced b k v m go) (replaced b k v m too)
   replaced-R b k v m go too h =
@@ -150,7 +151,7 @@ module _ (n : ℕ) (q : ℕ → List ℕ → Type 0) (R : Move → Move → Type
 
   assigns-R : (p : Place) (f : Frame) (d : Data) (go too : Data → Move) → Q d → ((d' : Data) → Q d' → R (go d') (too (with_left n d'))) → R (assigns p f d go) (assigns p f (with_left n d) too)
   assigns-R p f d go too h k =
-      cond-R (can_assign d.mem f.block p) (written (assign d.mem f.block p) p f d go) Wrong (written (assign d.mem f.block p) p f (with_left n d) too) Wrong
+      cond-R (can (op.assign f.block p) d.mem) (written (assign d.mem f.block p) p f d go) Wrong (written (assign d.mem f.block p) p f (with_left n d) too) Wrong
       (written-R (assign d.mem f.block p) p f d go too h k) wrong
 
   copied_or_pushed-R : (r : Mem × Read) (b : ℕ) (v : Option Scalar) (m : Mem) (go too : Mem → Move) → ((m' : Mem) → R (go m') (too m')) → R (copied_or_pushed r b v m go) (copied_or_pushed r b v m too)
@@ -160,7 +161,7 @@ module _ (n : ℕ) (q : ℕ → List ℕ → Type 0) (R : Move → Move → Type
 
   read_as-R : (r : Reading) (p : Place) (f : Frame) (d : Data) (go too : Mem → Move) → Q d → ((m : Mem) → R (go m) (too m)) → R (read_as r p f d go) (read_as r p f (with_left n d) too)
   read_as-R (gives c) p f d go too h k =
-      cond-R (can_copy d.mem f.block p) (copied_or_pushed (copy d.mem f.block p) f.block (scalar_of c) d.mem go) Wrong (copied_or_pushed (copy d.mem f.block p) f.block (scalar_of c) d.mem too) Wrong
+      cond-R (can (op.copy f.block p) d.mem) (copied_or_pushed (copy d.mem f.block p) f.block (scalar_of c) d.mem go) Wrong (copied_or_pushed (copy d.mem f.block p) f.block (scalar_of c) d.mem too) Wrong
       (copied_or_pushed-R (copy d.mem f.block p) f.block (scalar_of c) d.mem go too k) wrong
   read_as-R (throws_kind kind) p f d go too h k =
       cond-R (nat_eq kind.0 NOT_AN_ARRAY.0) Wrong (throws kind [] f d) Wrong (throws kind [] f (with_left n d)) wrong (throws-R kind [] f d h)
@@ -184,7 +185,7 @@ module _ (n : ℕ) (q : ℕ → List ℕ → Type 0) (R : Move → Move → Type
   settled_if-R : (is : List Item) (b : ℕ) (m : Mem) (go too : Mem → Move) → ((m' : Mem) → R (go m') (too m')) → R (settled_if is b m go) (settled_if is b m too)
   settled_if-R [] b m go too h = wrong
   settled_if-R (value c ∷ is) b m go too h = h m
-  settled_if-R (link s ∷ is) b m go too h = on-R (can_settle m b) (settle m b) go too h
+  settled_if-R (link s ∷ is) b m go too h = on-R (can (op.settle b) m) (settle m b) go too h
 
   tested-R : (c : Option Content) (test : Content → Bool) (b : ℕ) (m : Mem) (go too : Mem → Move) → ((m' : Mem) → R (go m') (too m')) → R (tested c test b m go) (tested c test b m too)
   tested-R None test b m go too h = wrong
@@ -192,10 +193,10 @@ module _ (n : ℕ) (q : ℕ → List ℕ → Type 0) (R : Move → Move → Type
 
   effect_stack-R : (a : StackAction) (f : Frame) (d : Data) → Q d → R (effect_stack a f d) (effect_stack a f (with_left n d))
   effect_stack-R (stack.Push v) f d h = pushed-R f.block v d.mem (next_with d) (next_with (with_left n d)) (next_with-R d h)
-  effect_stack-R stack.PushArray f d h = on-R (can_push_array d.mem f.block) (push_array d.mem f.block) (next_with d) (next_with (with_left n d)) (next_with-R d h)
+  effect_stack-R stack.PushArray f d h = on-R (can (op.push_array f.block) d.mem) (push_array d.mem f.block) (next_with d) (next_with (with_left n d)) (next_with-R d h)
   effect_stack-R stack.Drop f d h = drops-R f.block 1 d.mem (next_with d) (next_with (with_left n d)) (next_with-R d h)
   effect_stack-R stack.Swap f d h = turned-R f.block 2 d.mem (next_with d) (next_with (with_left n d)) (next_with-R d h)
-  effect_stack-R stack.Duplicate f d h = on-R (can_copy d.mem f.block (temp f.block 0)) (copy d.mem f.block (temp f.block 0)).0 (next_with d) (next_with (with_left n d)) (next_with-R d h)
+  effect_stack-R stack.Duplicate f d h = on-R (can (op.copy f.block (temp f.block 0)) d.mem) (copy d.mem f.block (temp f.block 0)).0 (next_with d) (next_with (with_left n d)) (next_with-R d h)
   effect_stack-R stack.Settle f d h = settled_if-R (scope_of d.mem f.block).temps f.block d.mem (next_with d) (next_with (with_left n d)) (next_with-R d h)
   effect_stack-R stack.TestTruth f d h = tested-R (operand d.mem f.block 0) truth_of f.block d.mem (next_with d) (next_with (with_left n d)) (next_with-R d h)
   effect_stack-R stack.TestNotNull f d h = tested-R (operand d.mem f.block 0) (λ c. not (is_null c)) f.block d.mem (next_with d) (next_with (with_left n d)) (next_with-R d h)
@@ -207,7 +208,7 @@ module _ (n : ℕ) (q : ℕ → List ℕ → Type 0) (R : Move → Move → Type
       (λ m. sink-R f.block (size form) m (next_with d) (next_with (with_left n d)) (next_with-R d h)))
   effect_place-R (places.Assign form) this f d h =
       with_place-R form 1 this f d _ _ h
-      (λ _. on-R (can_copy d.mem f.block (temp f.block 0)) (copy d.mem f.block (temp f.block 0)).0
+      (λ _. on-R (can (op.copy f.block (temp f.block 0)) d.mem) (copy d.mem f.block (temp f.block 0)).0
       (λ m. with_place form 2 this f (with_mem d m) (λ p. assigns p f (with_mem d m) (λ d'. sink f.block (size form) d'.mem (next_with d'))))
       (λ m. with_place form 2 this f (with_left n (with_mem d m)) (λ p. assigns p f (with_left n (with_mem d m)) (λ d'. sink f.block (size form) d'.mem (next_with d'))))
       (λ m. with_place-R form 2 this f (with_mem d m) (λ p. assigns p f (with_mem d m) (λ d'. sink f.block (size form) d'.mem (next_with d'))) (λ p. assigns p f (with_left n (with_mem d m)) (λ d'. sink f.block (size form) d'.mem (next_with d'))) h
@@ -217,14 +218,14 @@ module _ (n : ℕ) (q : ℕ → List ℕ → Type 0) (R : Move → Move → Type
   taken_over-R : (k : ℕ) (ks : List Key) (f : Frame) (d : Data) (go too : Data → Move) → Q d → ((d' : Data) → Q d' → R (go d') (too (with_left n d'))) → R (taken_over k ks f d go) (taken_over k ks f (with_left n d) too)
   taken_over-R k [] f d go too h l = l d h
   taken_over-R k (x ∷ ks) f d go too h l =
-      on-R (can_copy d.mem f.block (element f.block k x)) (copy d.mem f.block (element f.block k x)).0
+      on-R (can (op.copy f.block (element f.block k x)) d.mem) (copy d.mem f.block (element f.block k x)).0
       (λ m. assigns (element f.block 1 x) f (with_mem d m) (λ d'. taken_over k ks f d' go)) (λ m. assigns (element f.block 1 x) f (with_left n (with_mem d m)) (λ d'. taken_over k ks f d' too))
       (λ m. assigns-R (element f.block 1 x) f (with_mem d m) (λ d'. taken_over k ks f d' go) (λ d'. taken_over k ks f d' too) h (λ d' h'. taken_over-R k ks f d' go too h' l))
 
   united-R : (x y : Listing ℕ) (f : Frame) (d : Data) → Q d → R (united x y f d) (united x y f (with_left n d))
   united-R x y f d h =
       cond-R (nat_lt ENTRY_LIMIT (length (keys_of x.entries) + length (keys_lacking x y.entries))) (fault ArrayLimit f d) _ (fault ArrayLimit f (with_left n d)) _ (fault-R ArrayLimit f d h)
-      (on-R (can_push_array d.mem f.block) (push_array d.mem f.block)
+      (on-R (can (op.push_array f.block) d.mem) (push_array d.mem f.block)
       (λ m. taken_over 2 (keys_of x.entries) f (with_mem d m) (λ d'. taken_over 1 (keys_lacking x y.entries) f d' (λ d''. sink f.block 2 d''.mem (next_with d''))))
       (λ m. taken_over 2 (keys_of x.entries) f (with_left n (with_mem d m)) (λ d'. taken_over 1 (keys_lacking x y.entries) f d' (λ d''. sink f.block 2 d''.mem (next_with d''))))
       (λ m. taken_over-R 2 (keys_of x.entries) f (with_mem d m) (λ d'. taken_over 1 (keys_lacking x y.entries) f d' (λ d''. sink f.block 2 d''.mem (next_with d''))) (λ d'. taken_over 1 (keys_lacking x y.entries) f d' (λ d''. sink f.block 2 d''.mem (next_with d''))) h
@@ -311,7 +312,7 @@ module _ (n : ℕ) (q : ℕ → List ℕ → Type 0) (R : Move → Move → Type
   constant_pushed-R : (i : Option ℕ) (name : List ℕ) (statics : ℕ) (f : Frame) (d : Data) → Q d → R (constant_pushed i name statics f d) (constant_pushed i name statics f (with_left n d))
   constant_pushed-R None name statics f d h = throws-R UNDEFINED_CONSTANT name f d h
   constant_pushed-R (Some i) name statics f d h =
-      cond-R (can_copy d.mem f.block (static (statics + i))) (found_copy (copy d.mem f.block (static (statics + i))) d) Wrong (found_copy (copy d.mem f.block (static (statics + i))) (with_left n d)) Wrong
+      cond-R (can (op.copy f.block (static (statics + i))) d.mem) (found_copy (copy d.mem f.block (static (statics + i))) d) Wrong (found_copy (copy d.mem f.block (static (statics + i))) (with_left n d)) Wrong
       (found_copy-R (copy d.mem f.block (static (statics + i))) d h) wrong
 
   effect_name-R : (a : NameAction) (statics : ℕ) (f : Frame) (d : Data) → Q d → R (effect_name a statics f d) (effect_name a statics f (with_left n d))
@@ -345,10 +346,10 @@ module _ (n : ℕ) (q : ℕ → List ℕ → Type 0) (R : Move → Move → Type
 
   handed-R : (f g : Frame) (fs : List Frame) (d : Data) → Q d → R (handed f g fs d) (handed f g fs (with_left n d))
   handed-R f g fs d h =
-      on-R (can_pass d.mem f.block g.block) (pass d.mem f.block g.block)
-      (λ m. on (can_leave m f.block) (leave_block m f.block) (λ m'. Leave (with_newest (with_mem d m') (passed_to f.pending g) fs)))
-      (λ m. on (can_leave m f.block) (leave_block m f.block) (λ m'. Leave (with_left n (with_newest (with_mem d m') (passed_to f.pending g) fs))))
-      (λ m. on-R (can_leave m f.block) (leave_block m f.block) (λ m'. Leave (with_newest (with_mem d m') (passed_to f.pending g) fs)) (λ m'. Leave (with_left n (with_newest (with_mem d m') (passed_to f.pending g) fs)))
+      on-R (can (op.pass f.block g.block) d.mem) (pass d.mem f.block g.block)
+      (λ m. on (can (op.leave f.block) m) (leave_block m f.block) (λ m'. Leave (with_newest (with_mem d m') (passed_to f.pending g) fs)))
+      (λ m. on (can (op.leave f.block) m) (leave_block m f.block) (λ m'. Leave (with_left n (with_newest (with_mem d m') (passed_to f.pending g) fs))))
+      (λ m. on-R (can (op.leave f.block) m) (leave_block m f.block) (λ m'. Leave (with_newest (with_mem d m') (passed_to f.pending g) fs)) (λ m'. Leave (with_left n (with_newest (with_mem d m') (passed_to f.pending g) fs)))
       (λ m'. leave (with_newest (with_mem d m') (passed_to f.pending g) fs) h))
 
   value_fallen-R : (k : ℕ) (f : Frame) (d : Data) → Q d → R (value_fallen k f d) (value_fallen k f (with_left n d))
@@ -368,7 +369,7 @@ module _ (n : ℕ) (q : ℕ → List ℕ → Type 0) (R : Move → Move → Type
 
   ending-R : (facts : Facts) (d : Data) (f : Frame) (fs : List Frame) → Q d → R (ending facts d f fs) (ending facts (with_left n d) f fs)
   ending-R facts d f fs h =
-      cond-R (can_shed d.mem f.block) (after_shed (shed d.mem f.block) (this_if (fact_of facts f)) f fs d) Wrong (after_shed (shed d.mem f.block) (this_if (fact_of facts f)) f fs (with_left n d)) Wrong
+      cond-R (can (op.shed f.block) d.mem) (after_shed (shed d.mem f.block) (this_if (fact_of facts f)) f fs d) Wrong (after_shed (shed d.mem f.block) (this_if (fact_of facts f)) f fs (with_left n d)) Wrong
       (after_shed-R (shed d.mem f.block) (this_if (fact_of facts f)) f fs d h) wrong
 
   released-R : (r : Mem × Fallen) (d : Data) → Q d → R (released r d) (released r (with_left n d))
@@ -389,9 +390,9 @@ module _ (n : ℕ) (q : ℕ → List ℕ → Type 0) (R : Move → Move → Type
   planned_after-R : (is : List Item) (facts : Facts) (d : Data) (f : Frame) (fs : List Frame) → Q d → SamePlanBy R (planned_after is facts d f fs) (planned_after is facts (with_left n d) f fs)
   planned_after-R [] facts d f fs h = planned_by-R f.way f.pending facts d f fs h
   planned_after-R (i ∷ is) facts d f fs h = (
-    cond (is_block d.mem f.block) (released (fall d.mem f.block) (with_left n d)) Wrong,
+    cond (can (op.fall f.block) d.mem) (released (fall d.mem f.block) (with_left n d)) Wrong,
     refl,
-    cond-R (is_block d.mem f.block) (released (fall d.mem f.block) d) Wrong (released (fall d.mem f.block) (with_left n d)) Wrong (released-R (fall d.mem f.block) d h) wrong,
+    cond-R (can (op.fall f.block) d.mem) (released (fall d.mem f.block) d) Wrong (released (fall d.mem f.block) (with_left n d)) Wrong (released-R (fall d.mem f.block) d h) wrong,
   )
 
   pub planned-R : (facts : Facts) (d : Data) (fs : List Frame) → Q d → SamePlanBy R (planned facts d fs) (planned facts (with_left n d) fs)

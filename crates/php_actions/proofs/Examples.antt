@@ -6,7 +6,7 @@ use Rattle.php_memdef.specs.Holders.{holders, object_holders}
 use Rattle.php_memdef.specs.Copies.{copied}
 use Rattle.php_memdef.specs.Places.{find_place, walk}
 use Rattle.php_memdef.specs.Reading.{reading}
-use Rattle.php_memdef.specs.Temporaries.{enter, leave, push, push_array, pass, drop_top, copy, settle}
+use Rattle.php_memdef.specs.Temporaries.{enter, leave, push, push_array, pass, turn, drop_top, copy, settle}
 use Rattle.php_memdef.specs.Writes.{assign, shed}
 use Rattle.php_memdef.specs.Releases.{fall}
 use Rattle.php_actions.specs.Effect.{effect}
@@ -15,7 +15,7 @@ use Rattle.php_actions.specs.Plan.{plan, truth}
 use Rattle.php_actions.specs.Examples.{StackExamples, PlaceExamples, OperatorExamples, OutputExamples, OtherExamples, PlanExamples, RunExamples}
 
 pub stack_examples : StackExamples
-unfolding digits set_value append_value remove_key pop_entry holders object_holders copied find_place walk reading enter leave push push_array pass drop_top copy settle assign shed fall effect landed unserved plan truth
+unfolding digits set_value append_value remove_key pop_entry holders object_holders copied find_place walk reading enter leave push push_array pass turn drop_top copy settle assign shed fall effect landed unserved plan truth
 stack_examples = record {
   push_leaves = refl;
   push_array_leaves = refl;
@@ -37,7 +37,7 @@ stack_examples = record {
 }
 
 pub place_examples : PlaceExamples
-unfolding digits set_value append_value remove_key pop_entry holders object_holders copied find_place walk reading enter leave push push_array pass drop_top copy settle assign shed fall effect landed unserved plan truth
+unfolding digits set_value append_value remove_key pop_entry holders object_holders copied find_place walk reading enter leave push push_array pass turn drop_top copy settle assign shed fall effect landed unserved plan truth
 place_examples = record {
   variable_is_read = refl;
   missing_variable_is_null = refl;
@@ -55,7 +55,7 @@ place_examples = record {
 }
 
 pub operator_examples : OperatorExamples
-unfolding digits set_value append_value remove_key pop_entry holders object_holders copied find_place walk reading enter leave push push_array pass drop_top copy settle assign shed fall effect landed unserved plan truth
+unfolding digits set_value append_value remove_key pop_entry holders object_holders copied find_place walk reading enter leave push push_array pass turn drop_top copy settle assign shed fall effect landed unserved plan truth
 operator_examples = record {
   left_is_below = refl;
   two_texts = refl;
@@ -91,7 +91,7 @@ operator_examples = record {
 }
 
 pub output_examples : OutputExamples
-unfolding digits set_value append_value remove_key pop_entry holders object_holders copied find_place walk reading enter leave push push_array pass drop_top copy settle assign shed fall effect landed unserved plan truth
+unfolding digits set_value append_value remove_key pop_entry holders object_holders copied find_place walk reading enter leave push push_array pass turn drop_top copy settle assign shed fall effect landed unserved plan truth
 output_examples = record {
   echo_writes = refl;
   echo_leaves = refl;
@@ -102,7 +102,7 @@ output_examples = record {
 }
 
 pub other_examples : OtherExamples
-unfolding digits set_value append_value remove_key pop_entry holders object_holders copied find_place walk reading enter leave push push_array pass drop_top copy settle assign shed fall effect landed unserved plan truth
+unfolding digits set_value append_value remove_key pop_entry holders object_holders copied find_place walk reading enter leave push push_array pass turn drop_top copy settle assign shed fall effect landed unserved plan truth
 other_examples = record {
   unknown_constant = refl;
   body_returns_null = refl;
@@ -112,7 +112,7 @@ other_examples = record {
 }
 
 pub plan_examples : PlanExamples
-unfolding digits set_value append_value remove_key pop_entry holders object_holders copied find_place walk reading enter leave push push_array pass drop_top copy settle assign shed fall effect landed unserved plan truth
+unfolding digits set_value append_value remove_key pop_entry holders object_holders copied find_place walk reading enter leave push push_array pass turn drop_top copy settle assign shed fall effect landed unserved plan truth
 plan_examples = record {
   proceeds = refl;
   looks_for_a_stop = refl;
@@ -128,7 +128,7 @@ plan_examples = record {
 }
 
 pub run_examples : RunExamples
-unfolding digits set_value append_value remove_key pop_entry holders object_holders copied find_place walk reading enter leave push push_array pass drop_top copy settle assign shed fall effect landed unserved plan truth
+unfolding digits set_value append_value remove_key pop_entry holders object_holders copied find_place walk reading enter leave push push_array pass turn drop_top copy settle assign shed fall effect landed unserved plan truth
 run_examples = record {
   whole = refl;
   cut = refl;

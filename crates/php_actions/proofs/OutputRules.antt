@@ -12,7 +12,8 @@ use Rattle.php_actions.specs.declared.jumps.JumpAction.{JumpAction}
 use Rattle.php_actions.specs.declared.jumps.JumpAction.TheVariants.{Tick}
 use Rattle.php_actions.specs.Data.{Frame, Data, Move, Plan, with_mem, with_left, by_frame}
 use Rattle.php_actions.specs.Contents.{truth_of}
-use Rattle.php_actions.specs.Tests.{can_drop}
+use Rattle.php_memdef.specs.Operations as op
+use Rattle.php_memdef.specs.Deciders.{can}
 use Rattle.php_actions.specs.Steps.{operand}
 use Rattle.php_actions.specs.Jumps.{ticked, effect_jump}
 use Rattle.php_actions.specs.Effect.{effect_in, effect}
@@ -72,7 +73,7 @@ module _ (xs : List ℕ) where
 
   truth_in-writes : (d : Data) (fs : List Frame) → Begins xs d.out → TruthBegins output_of xs (truth_in d fs)
   truth_in-writes d [] h = tt
-  truth_in-writes d (f ∷ fs) h = truth_by-writes (operand d.mem f.block 0) (can_drop d.mem f.block) f d h
+  truth_in-writes d (f ∷ fs) h = truth_by-writes (operand d.mem f.block 0) (can (op.drop_top f.block) d.mem) f d h
 
 pub only_writes-lem : (facts : Facts) → OnlyWrites (rules facts) output_of
 unfolding effect plan truth landed unserved

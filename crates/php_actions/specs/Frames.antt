@@ -11,7 +11,8 @@ use Rattle.php_machine.specs.Moves.{Next, Leave, End, Wrong}
 use Rattle.php_actions.specs.declared.facts.Facts.{Facts}
 use Rattle.php_actions.specs.declared.ending.Ending.TheVariants.{Done}
 use Rattle.php_actions.specs.Data.{Frame, Data, Move, with_mem, with_newest, by_frame, on, next_with}
-use Rattle.php_actions.specs.Tests.{can_shed, can_pass, can_leave}
+use Rattle.php_memdef.specs.Operations as op
+use Rattle.php_memdef.specs.Deciders.{can}
 use Rattle.php_actions.specs.Steps.{turned, drops, sink, trim}
 use Rattle.php_actions.specs.Effect.{fact_of, this_if}
 
@@ -49,8 +50,8 @@ passed_to why g = record g { pending = why; way = Going }
 -- the value goes to the caller, and the block is gone
 abbrev pub handed : Frame → Frame → List Frame → Data → Move
 handed f g fs d =
-    on (can_pass d.mem f.block g.block) (pass d.mem f.block g.block) (λ m.
-    on (can_leave m f.block) (leave m f.block) (λ m'. Leave (with_newest (with_mem d m') (passed_to f.pending g) fs)))
+    on (can (op.pass f.block g.block) d.mem) (pass d.mem f.block g.block) (λ m.
+    on (can (op.leave f.block) m) (leave m f.block) (λ m'. Leave (with_newest (with_mem d m') (passed_to f.pending g) fs)))
 
 abbrev pub is_throw : Completion → Bool
 is_throw Normal = false
@@ -82,4 +83,4 @@ after_shed (m, false) has_this f fs d =
     (ended f fs d)
 
 abbrev pub ending : Facts → Data → Frame → List Frame → Move
-ending facts d f fs = cond (can_shed d.mem f.block) (after_shed (shed d.mem f.block) (this_if (fact_of facts f)) f fs d) Wrong
+ending facts d f fs = cond (can (op.shed f.block) d.mem) (after_shed (shed d.mem f.block) (this_if (fact_of facts f)) f fs d) Wrong

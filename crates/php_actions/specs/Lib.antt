@@ -1,7 +1,6 @@
 pub mod Data
 pub mod Errors
 pub mod Contents
-pub mod Tests
 pub mod Steps
 pub mod PlaceForms
 pub mod Stack

@@ -12,7 +12,8 @@ use Rattle.php_machine.specs.Moves.{Wrong}
 use Rattle.php_actions.specs.declared.names.NameAction.{NameAction}
 use Rattle.php_actions.specs.declared.names.NameAction.TheVariants.{PushConstant}
 use Rattle.php_actions.specs.Data.{Frame, Data, Move, next_with}
-use Rattle.php_actions.specs.Tests.{can_copy}
+use Rattle.php_memdef.specs.Operations as op
+use Rattle.php_memdef.specs.Deciders.{can}
 use Rattle.php_actions.specs.Steps.{throws}
 
 -- the place of a name among others
@@ -30,7 +31,7 @@ found_copy (m, Absent) d = Wrong
 -- the constant of this place has the static behind those of the text
 abbrev pub constant_pushed : Option ℕ → List ℕ → ℕ → Frame → Data → Move
 constant_pushed None name statics f d = throws UNDEFINED_CONSTANT name f d
-constant_pushed (Some i) name statics f d = cond (can_copy d.mem f.block (static (statics + i))) (found_copy (copy d.mem f.block (static (statics + i))) d) Wrong
+constant_pushed (Some i) name statics f d = cond (can (op.copy f.block (static (statics + i))) d.mem) (found_copy (copy d.mem f.block (static (statics + i))) d) Wrong
 
 abbrev pub effect_name : NameAction → ℕ → Frame → Data → Move
 effect_name (PushConstant name) statics f d = constant_pushed (place_among name d.constants) name statics f d

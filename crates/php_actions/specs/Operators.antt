@@ -26,7 +26,8 @@ use Rattle.php_actions.specs.declared.operators.OperatorAction.{OperatorAction}
 use Rattle.php_actions.specs.declared.operators.OperatorAction.TheVariants.{Operate, ExclusiveOr, ToBool, Not, ToInt, ToText, Sign, Complement, Count, Join}
 use Rattle.php_actions.specs.Data.{Frame, Data, Move, on, with_mem, next_with}
 use Rattle.php_actions.specs.Contents.{scalar_of, truth_of, text_of_content, number_of, has_entries}
-use Rattle.php_actions.specs.Tests.{can_push_array, can_copy}
+use Rattle.php_memdef.specs.Operations as op
+use Rattle.php_memdef.specs.Deciders.{can}
 use Rattle.php_actions.specs.Steps.{operand, turned, drops, sink, pushed, replaced, fault, stopped, throws, assigns}
 
 -- what a computation comes to; None where an object's class decides
@@ -70,14 +71,14 @@ element b n k = record { base = Temp (record { 0 = b }) n; path = At k ∷ [] }
 abbrev pub taken_over : ℕ → List Key → Frame → Data → (Data → Move) → Move
 taken_over n [] f d go = go d
 taken_over n (k ∷ ks) f d go =
-    on (can_copy d.mem f.block (element f.block n k)) (copy d.mem f.block (element f.block n k)).0 (λ m.
+    on (can (op.copy f.block (element f.block n k)) d.mem) (copy d.mem f.block (element f.block n k)).0 (λ m.
     assigns (element f.block 1 k) f (with_mem d m) (λ d'. taken_over n ks f d' go))
 
 abbrev pub united : Listing ℕ → Listing ℕ → Frame → Data → Move
 united x y f d =
     cond (nat_lt ENTRY_LIMIT (length (keys_of x.entries) + length (keys_lacking x y.entries)))
     (fault ArrayLimit f d)
-    (on (can_push_array d.mem f.block) (push_array d.mem f.block) (λ m.
+    (on (can (op.push_array f.block) d.mem) (push_array d.mem f.block) (λ m.
     taken_over 2 (keys_of x.entries) f (with_mem d m) (λ d'.
     taken_over 1 (keys_lacking x y.entries) f d' (λ d''. sink f.block 2 d''.mem (next_with d'')))))
 

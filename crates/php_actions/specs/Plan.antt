@@ -15,7 +15,8 @@ use Rattle.php_actions.specs.declared.facts.Facts.{Facts}
 use Rattle.php_actions.specs.declared.ending.Ending.{Ending as RunEnding}
 use Rattle.php_actions.specs.Data.{Frame, Data, Move, Plan, Truth, with_mem, next_with}
 use Rattle.php_actions.specs.Contents.{truth_of}
-use Rattle.php_actions.specs.Tests.{is_block, can_drop}
+use Rattle.php_memdef.specs.Operations as op
+use Rattle.php_memdef.specs.Deciders.{can}
 use Rattle.php_actions.specs.Steps.{operand}
 use Rattle.php_actions.specs.Effect.{effect}
 use Rattle.php_actions.specs.Frames.{ending, landed, unserved}
@@ -34,7 +35,7 @@ planned_by Ending why facts d f fs = Make (ending facts d f fs)
 
 -- what has fallen is released first
 abbrev pub planned_after : List Item → Facts → Data → Frame → List Frame → Plan
-planned_after (i ∷ is) facts d f fs = Make (cond (is_block d.mem f.block) (released (fall d.mem f.block) d) Wrong)
+planned_after (i ∷ is) facts d f fs = Make (cond (can (op.fall f.block) d.mem) (released (fall d.mem f.block) d) Wrong)
 planned_after [] facts d f fs = planned_by f.way f.pending facts d f fs
 
 abbrev pub planned : Facts → Data → List Frame → Plan
@@ -55,7 +56,7 @@ truth_by (Some c) true f d = chosen (truth_of c) (with_mem d (drop_top d.mem f.b
 
 abbrev pub truth_in : Data → List Frame → Truth
 truth_in d [] = NoValue
-truth_in d (f ∷ fs) = truth_by (operand d.mem f.block 0) (can_drop d.mem f.block) f d
+truth_in d (f ∷ fs) = truth_by (operand d.mem f.block 0) (can (op.drop_top f.block) d.mem) f d
 
 -- the value on top is taken as a truth, and falls
 unfoldable pub truth : Data → Truth

@@ -16,7 +16,7 @@ use Rattle.php_memdef.specs.declared.answer.Wrote.{Wrote}
 use Rattle.php_memdef.specs.declared.answer.Wrote.TheVariants.{Done, NotArray, Full, Limit}
 use Rattle.php_memdef.specs.Contents.{Content, Mem, scope_of}
 use Rattle.php_memdef.specs.Places.{Spot, content_at, base_spot, next_spot, elements_to_write}
-use Rattle.php_memdef.specs.Temporaries.{with_temps, push, copy, drop_top}
+use Rattle.php_memdef.specs.Temporaries.{push, copy, turn, drop_top}
 use Rattle.php_memdef.specs.Writes.{assign}
 use Rattle.php_memdef.specs.Views.{found, cost_of}
 use Rattle.php_memdef.specs.Reading.{Reading, gives, throws as throws_kind, Manner, reading}
@@ -25,7 +25,8 @@ use Rattle.php_actions.specs.declared.ending.Ending.TheVariants.{Fatal, Uncaught
 use Rattle.php_actions.specs.Data.{Frame, Data, Move, on}
 use Rattle.php_actions.specs.Errors.{class_of, message_of}
 use Rattle.php_actions.specs.Contents.{type_name, scalar_of}
-use Rattle.php_actions.specs.Tests.{can_push, can_copy, can_assign, can_drop, can_turn}
+use Rattle.php_memdef.specs.Operations as op
+use Rattle.php_memdef.specs.Deciders.{can}
 
 -- the place of the n-th temporary from the top
 abbrev pub temp : ℕ → ℕ → Place
@@ -35,17 +36,13 @@ temp b n = record { base = Temp (record { 0 = b }) n; path = [] }
 abbrev pub operand : Mem → ℕ → ℕ → Option Content
 operand m b n = found m (temp b n)
 
--- the n top temporaries in reverse
-abbrev pub turn : Mem → ℕ → ℕ → Mem
-turn m b n = let ts = (scope_of m b).temps in with_temps m b (reverse (take n ts) ++ drop n ts)
-
 abbrev pub turned : ℕ → ℕ → Mem → (Mem → Move) → Move
-turned b n m go = on (can_turn m b n) (turn m b n) go
+turned b n m go = on (can (op.turn b n) m) (turn m b n) go
 
 -- n temporaries fall, the top first
 abbrev pub drops : ℕ → ℕ → Mem → (Mem → Move) → Move
 drops b zero m go = go m
-drops b (suc n) m go = on (can_drop m b) (drop_top m b) (λ m'. drops b n m' go)
+drops b (suc n) m go = on (can (op.drop_top b) m) (drop_top m b) (λ m'. drops b n m' go)
 
 -- the n temporaries under the top fall, the lowest first
 abbrev pub sink : ℕ → ℕ → Mem → (Mem → Move) → Move
@@ -58,7 +55,7 @@ trim b zero m go = go m
 trim b (suc n) m go = turned b (suc (suc n)) m (λ m'. turned b (suc n) m' (λ m''. drops b (suc n) m'' go))
 
 abbrev pub pushed : ℕ → Scalar → Mem → (Mem → Move) → Move
-pushed b v m go = on (can_push m b v) (push m b v) go
+pushed b v m go = on (can (op.push b v) m) (push m b v) go
 
 -- the n top temporaries fall, the lowest of them first, and a value comes
 abbrev pub replaced : ℕ → ℕ → Scalar → Mem → (Mem → Move) → Move
@@ -111,7 +108,7 @@ written (m, Limit) p f d go = fault ArrayLimit f d
 
 -- the top temporary moves into a place
 abbrev pub assigns : Place → Frame → Data → (Data → Move) → Move
-assigns p f d go = cond (can_assign d.mem f.block p) (written (assign d.mem f.block p) p f d go) Wrong
+assigns p f d go = cond (can (op.assign f.block p) d.mem) (written (assign d.mem f.block p) p f d go) Wrong
 
 -- a copy of what a place was read as: of what it holds, or, where it is missing, of what stands for it
 abbrev pub copied_or_pushed : Mem × Read → ℕ → Option Scalar → Mem → (Mem → Move) → Move
@@ -121,7 +118,7 @@ copied_or_pushed (m', Absent) b (Some v) m go = pushed b v m go
 
 -- only an object throws `NOT_AN_ARRAY` when it is read, and its class's name isn't known here
 abbrev pub read_as : Reading → Place → Frame → Data → (Mem → Move) → Move
-read_as (gives c) p f d go = cond (can_copy d.mem f.block p) (copied_or_pushed (copy d.mem f.block p) f.block (scalar_of c) d.mem go) Wrong
+read_as (gives c) p f d go = cond (can (op.copy f.block p) d.mem) (copied_or_pushed (copy d.mem f.block p) f.block (scalar_of c) d.mem go) Wrong
 read_as (throws_kind kind) p f d go = cond (nat_eq kind.0 NOT_AN_ARRAY.0) Wrong (throws kind [] f d)
 
 -- what a place is read as comes on top
