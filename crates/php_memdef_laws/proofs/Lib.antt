@@ -11,3 +11,5 @@ pub mod FreshLemmas
 pub mod Shapes
 pub mod DeciderLemmas
 pub mod DecidedOperations
+pub mod RestLemmas
+pub mod FallingLemmas

@@ -1,3 +1,4 @@
 pub mod Stops
 pub mod Readings
 pub mod Shapes
+pub mod Falls

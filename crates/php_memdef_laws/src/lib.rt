@@ -2,15 +2,16 @@
 // of all memories.
 #![tactic(auto)]
 
-ghost use Rattle.std.specs.Prelude.{◌≡◌, ℕ, [], Some};
+ghost use Rattle.std.specs.Prelude.{◌≡◌, ◌≢◌, ℕ, [], Some};
 ghost use Rattle.php_memdef.specs.declared.place.Place.{Place};
 ghost use Rattle.php_memdef.specs.declared.answer.Peek.{Peek};
 ghost use Rattle.php_memdef.specs.declared.answer.Fallen.TheVariants.{Nothing};
 ghost use Rattle.php_memdef.specs.Contents.{Content, Mem, fresh, scope_of};
 ghost use Rattle.php_memdef.specs.Alike.{Alike};
 ghost use Rattle.php_memdef.specs.Sound.{IsClosed, IsFormed, IsSound};
-ghost use Rattle.php_memdef.specs.Rest.{IsFresh};
+ghost use Rattle.php_memdef.specs.Rest.{EqualAtRest, IsFresh};
 ghost use Rattle.php_memdef.specs.Reading.{Manner, gives, reading};
+ghost use Rattle.php_memdef_laws.specs.Falls.{falls_in};
 ghost use Rattle.php_memdef_laws.specs.Readings.{renamed_reading};
 ghost use Rattle.php_memdef_laws.specs.Shapes.{shape, shape_after};
 ghost use Rattle.php_memdef_laws.specs.Stops.{StopsFor};
@@ -29,6 +30,15 @@ pub fn alike_is_an_equivalence()
     ensures reflexive { (m : Mem) → Alike m m }
     ensures symmetric { (m n : Mem) → Alike m n → Alike n m }
     ensures transitive { (l m n : Mem) → Alike l m → Alike m n → Alike l n }
+{}
+
+/// To be equal at rest is an equivalence, and alike memories are equal at rest.
+pub fn rest_is_an_equivalence()
+    ensures reflexive { (m : Mem) → EqualAtRest m m }
+    ensures symmetric { (m n : Mem) → EqualAtRest m n → EqualAtRest n m }
+    ensures transitive { (l m n : Mem) →
+        EqualAtRest l m → EqualAtRest m n → EqualAtRest l n }
+    ensures alike { (m n : Mem) → Alike m n → EqualAtRest m n }
 {}
 
 /// Each operation takes alike memories to alike memories, with one answer. What may be made on a
@@ -81,6 +91,12 @@ pub fn conditions_are_decided()
 pub fn shapes_after()
     ensures { (o : Operation) (m : Mem) → Can o m →
         (c : ℕ) → shape (effect o m) c ≡ shape_after o m c }
+{}
+
+/// What has fallen in a block stays as it is by an operation that lets nothing fall there.
+pub fn falling_stays()
+    ensures { (o : Operation) (m : Mem) (c : ℕ) →
+        falls_in o ≢ Some c → (scope_of (effect o m) c).falling ≡ (scope_of m c).falling }
 {}
 
 /// Reading gives alike memories the same, and gives what is found.
