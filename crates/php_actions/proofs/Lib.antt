@@ -1,0 +1,4 @@
+pub mod Examples
+pub mod EvenLemmas
+pub mod OutputRules
+pub mod AllowanceRules

@@ -1,0 +1,30 @@
+// Actions that compute a value from others, which fall: of two the left one first.
+
+use php_value::Op;
+
+#[derive(Drop)]
+pub enum OperatorAction {
+    /// [x y] → [z]. Throws `UNSUPPORTED_OPERANDS`, `DIVISION_BY_ZERO`, `ARITHMETIC`; faults `Overflow`,
+    /// `InexactQuotient`, `FloatNeeded`, `StringLimit`. An operand that is an array has the text `Array`, and
+    /// no number.
+    Operate(Op),
+    /// [x y] → [whether one alone is a truth]
+    ExclusiveOr,
+    /// [x] → [bool]
+    ToBool,
+    /// [x] → [bool]
+    Not,
+    /// [x] → [int]. Fault `FloatNeeded`. An array is 1 where it has entries, else 0.
+    ToInt,
+    /// [x] → [text]
+    ToText,
+    /// [x] → [its number, with the other sign where that is said]. Throws `UNSUPPORTED_OPERANDS`; faults
+    /// `Overflow`, `FloatNeeded`.
+    Sign { negative: bool },
+    /// [x] → [y], with all bits turned. Throws `UNSUPPORTED_OPERANDS`.
+    Complement,
+    /// [x] → [y], one more or one less. Throws `NOT_COUNTABLE`; faults `Overflow`, `FloatNeeded`.
+    Count { up: bool },
+    /// [x1 .. xn] → [their texts, joined]; the last one falls first. Fault `StringLimit`.
+    Join(usize),
+}

@@ -1,0 +1,12 @@
+// Actions on places. [K] is what the place takes of temporaries: its base, where that is one, and its keys.
+
+use crate::place_form::PlaceForm;
+
+#[derive(Drop)]
+pub enum PlaceAction {
+    /// [K] → [value]. Throws `NO_THIS`, `NOT_AN_ARRAY`, `BAD_OFFSET`, `TYPE_MISMATCH`.
+    Read(PlaceForm),
+    /// [K value] → [value]: a copy of the value moves into the place, and what the place held falls. Throws
+    /// `NO_THIS`, `NOT_AN_ARRAY`, `NO_KEY_LEFT`, `TYPE_MISMATCH`; fault `ArrayLimit`.
+    Assign(PlaceForm),
+}
