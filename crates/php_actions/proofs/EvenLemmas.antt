@@ -69,7 +69,7 @@ use Rattle.php_actions.specs.Names.{place_among, static, found_copy, constant_pu
 use Rattle.php_actions.specs.Calls.{completes, effect_call}
 use Rattle.php_actions.specs.Jumps.{effect_jump}
 use Rattle.php_actions.specs.Effect.{fact_of, this_if, result_if, effect_in}
-use Rattle.php_actions.specs.Frames.{operand_count, cleared, unserved_in, passed_to, handed, is_throw, value_fallen, ended, after_shed, ending}
+use Rattle.php_actions.specs.Frames.{operand_count, cleared, unserved_in, passed_to, handed, is_untold, value_fallen, ended, after_shed, ending}
 use Rattle.php_actions.specs.Plan.{released, planned_by, planned_after, planned}
 
 -- plans that tell related moves
@@ -357,7 +357,7 @@ module _ (n : ℕ) (q : ℕ → List ℕ → Type 0) (R : Move → Move → Type
   value_fallen-R zero f d h = finish (DoneWith d.status) d h
 
   ended-R : (f : Frame) (fs : List Frame) (d : Data) → Q d → R (ended f fs d) (ended f fs (with_left n d))
-  ended-R f [] d h = cond-R (is_throw f.pending) Wrong (value_fallen (temps_count d.mem f.block) f d) Wrong (value_fallen (temps_count d.mem f.block) f (with_left n d)) wrong (value_fallen-R (temps_count d.mem f.block) f d h)
+  ended-R f [] d h = cond-R (is_untold f.pending) Wrong (value_fallen (temps_count d.mem f.block) f d) Wrong (value_fallen (temps_count d.mem f.block) f (with_left n d)) wrong (value_fallen-R (temps_count d.mem f.block) f d h)
   ended-R f (g ∷ fs) d h = handed-R f g fs d h
 
   after_shed-R : (r : Mem × Bool) (this : Bool) (f : Frame) (fs : List Frame) (d : Data) → Q d → R (after_shed r this f fs d) (after_shed r this f fs (with_left n d))

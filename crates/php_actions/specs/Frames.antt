@@ -53,22 +53,23 @@ handed f g fs d =
     on (can (op.pass f.block g.block) d.mem) (pass d.mem f.block g.block) (λ m.
     on (can (op.leave f.block) m) (leave m f.block) (λ m'. Leave (with_newest (with_mem d m') (passed_to f.pending g) fs)))
 
-abbrev pub is_throw : Completion → Bool
-is_throw Normal = false
-is_throw (Break n) = false
-is_throw (Continue n) = false
-is_throw Return = false
-is_throw Throw = true
-is_throw (Exit n) = false
+-- how the run of a script ends by these isn't said yet
+abbrev pub is_untold : Completion → Bool
+is_untold Normal = false
+is_untold (Break n) = false
+is_untold (Continue n) = false
+is_untold Return = false
+is_untold Throw = true
+is_untold (Exit n) = true
 
 -- the script's value falls, and then the run is over
 abbrev pub value_fallen : ℕ → Frame → Data → Move
 value_fallen (suc n) f d = drops f.block 1 d.mem (next_with d)
 value_fallen zero f d = End (Done d.status) d
 
--- something that is thrown would need an object
+-- something that is thrown would need an object, and `exit` gives a status of its own
 abbrev pub script_ended : Completion → ℕ → Frame → Data → Move
-script_ended why n f d = cond (is_throw why) Wrong (value_fallen n f d)
+script_ended why n f d = cond (is_untold why) Wrong (value_fallen n f d)
 
 abbrev pub ended : Frame → List Frame → Data → Move
 ended f [] d = script_ended f.pending (temps_count d.mem f.block) f d

@@ -107,13 +107,13 @@ dropped_off true c m h = refl
 dropped_off false false m h = refl
 dropped_off false true m h = absurd (h refl refl)
 
-ends_off : (c : sign.Closer) (h : Holder) (items : Items (Unit {0})) (s : OpenForms) → NoMark h items (ends_item c) → ended_by c h items s ≡ None
+ends_off : (c : role.Closer) (h : Holder) (items : Items (Unit {0})) (s : OpenForms) → NoMark h items (ends_item c) → ended_by c h items s ≡ None
 ends_off role.comma h items s g = marked_off (is_array h) (past_items h (skip items) s) (λ a. g.no_comma a refl)
 ends_off role.paren h items s g = picked_off (has_paren h) (may_end h items) (after (closed_with h (ended_items items)) s) (λ a b. g.no_paren a b refl)
 ends_off role.bracket h items s g = dropped_off (has_paren h) (may_end h items) (after (closed_with h (ended_items items)) s) (λ a b. g.no_bracket a b refl)
 ends_off _ h items s g = refl
 
-closer_starts : (c : sign.Closer) (s : OpenForms) → start s (closer_symbol c) ≡ None
+closer_starts : (c : role.Closer) (s : OpenForms) → start s (closer_symbol c) ≡ None
 closer_starts role.paren s = refl
 closer_starts _ s = refl
 

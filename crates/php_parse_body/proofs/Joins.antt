@@ -149,7 +149,7 @@ pub then_opens : {room level : ℕ} {x w : List Symbol} (t : Symbol) (f : Form) 
     → Leads room level (λ s. holds f s) x (λ s. expects (then_open f ∷ s)) w
 then_opens t f is drawing near low filled deep = leads (λ s. past_question f s) (draw t by_choice f is drawing near low deep) (question_enters f filled)
 
-shut_then : (c : Form) (k : sign.Closer) (e : Form) (s : OpenForms) → k ≢ role.colon → closed k e (then_open c) s ≡ None
+shut_then : (c : Form) (k : role.Closer) (e : Form) (s : OpenForms) → k ≢ role.colon → closed k e (then_open c) s ≡ None
 shut_then c role.colon e s h = absurd (h refl)
 shut_then c _ e s h = refl
 

@@ -38,7 +38,7 @@ arguments_end (of_new class) items g = refl
 arguments_end (of_list listing) items g = cc
 
 -- a mark that ends an item ends an expression
-mark_closes_by : (x : Continuation) (c : sign.Closer) → mark_of x ≡ ends_item c → x ≡ closes c
+mark_closes_by : (x : Continuation) (c : role.Closer) → mark_of x ≡ ends_item c → x ≡ closes c
 mark_closes_by (closes k) c h = cc
 mark_closes_by (draws (role.by_binary op)) c h = absurd (joined op h)
   where
@@ -48,15 +48,15 @@ mark_closes_by (draws (role.by_binary op)) c h = absurd (joined op h)
 mark_closes_by (draws _) c h = cc
 mark_closes_by neither c h = cc
 
-mark_closes_punct : (p : Punct) (c : sign.Closer) → item_mark (punct p) ≡ ends_item c → continuation (punct p) ≡ closes c
+mark_closes_punct : (p : Punct) (c : role.Closer) → item_mark (punct p) ≡ ends_item c → continuation (punct p) ≡ closes c
 mark_closes_punct mark.Ellipsis c h = cc
 mark_closes_punct p c h = mark_closes_by (continuation (punct p)) c h
 
-mark_closes_one : (t : Symbol) (c : sign.Closer) → item_mark t ≡ ends_item c → continuation t ≡ closes c
+mark_closes_one : (t : Symbol) (c : role.Closer) → item_mark t ≡ ends_item c → continuation t ≡ closes c
 mark_closes_one (punct p) c h = mark_closes_punct p c h
 mark_closes_one t c h = mark_closes_by (continuation t) c h
 
-pub mark_closes : (v : List Symbol) (c : sign.Closer) → head_mark v ≡ ends_item c → head_continuation v ≡ closes c
+pub mark_closes : (v : List Symbol) (c : role.Closer) → head_mark v ≡ ends_item c → head_continuation v ≡ closes c
 mark_closes [] c h = cc
 mark_closes (t ∷ w) c h = mark_closes_one t c h
 
@@ -187,7 +187,7 @@ keys_off true h items (keyed k) e s g = refl
 keys_off true h items (keyed_reference k) e s g = refl
 keys_off false h items lead e s g = refl
 
-shut_items : (k : sign.Closer) (h : Holder) (items : Items Nothing) (lead : Lead Nothing) (e : Form) (s : OpenForms) (v : List Symbol) → Shut h lead v → head_continuation v ≡ closes k → closed k e (items_open h items lead) s ≡ None
+shut_items : (k : role.Closer) (h : Holder) (items : Items Nothing) (lead : Lead Nothing) (e : Form) (s : OpenForms) (v : List Symbol) → Shut h lead v → head_continuation v ≡ closes k → closed k e (items_open h items lead) s ≡ None
 shut_items role.comma h items lead e s v g is = absurd (g.no_comma is)
 shut_items role.paren h items lead e s v g is = allowed_off (has_paren h) (after (closed_with h (and items lead e)) s) (λ b. g.no_paren b is)
 shut_items role.bracket h items lead e s v g is = dropped_off (has_paren h) (after (closed_with h (and items lead e)) s) (λ b. g.no_bracket b is)
@@ -200,11 +200,11 @@ item_unclosed {room} {v} h items lead e rests g = unclosed_halts e (items_open h
 
 -- ---- where an item is due
 
-closes_mark_punct : (p : Punct) (c : sign.Closer) → continuation (punct p) ≡ closes c → item_mark (punct p) ≡ ends_item c
+closes_mark_punct : (p : Punct) (c : role.Closer) → continuation (punct p) ≡ closes c → item_mark (punct p) ≡ ends_item c
 closes_mark_punct mark.Ellipsis c h = cc
 closes_mark_punct p c h = ap mark_of h
 
-pub closes_mark : (t : Symbol) (c : sign.Closer) → continuation t ≡ closes c → item_mark t ≡ ends_item c
+pub closes_mark : (t : Symbol) (c : role.Closer) → continuation t ≡ closes c → item_mark t ≡ ends_item c
 closes_mark (punct p) c h = closes_mark_punct p c h
 closes_mark t c h = ap mark_of h
 

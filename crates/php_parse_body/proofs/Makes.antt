@@ -84,7 +84,7 @@ pub step_opens : {room : ℕ} {x w : List Symbol} (t : Symbol) (steps : Steps No
 step_opens t steps is drawing deep =
     move t is (λ s near. ap (class_step (class_found steps) s) drawing) (λ n s near at. omega (arith, behind_draw role.by_index s (continuation t) drawing (omega (arith, least_power_most s))))
 
-shut_step : (a : Steps Nothing) (c : sign.Closer) (e : Form) (s : OpenForms) → c ≢ role.bracket → closed c e (step_open a) s ≡ None
+shut_step : (a : Steps Nothing) (c : role.Closer) (e : Form) (s : OpenForms) → c ≢ role.bracket → closed c e (step_open a) s ≡ None
 shut_step a role.bracket e s h = absurd (h refl)
 shut_step a _ e s h = refl
 
@@ -168,7 +168,7 @@ moldless n pieces s (t ∷ w) h = sticks n (past_template pieces s) t w (templat
 pub template_halts : {room level : ℕ} {v : List Symbol} (pieces : Pieces Nothing) → head_mold v ≡ is_other → Halts false room level (λ s. past_template pieces s) v v
 template_halts {room} {level} {v} pieces h = record { same = λ n s whole near at. moldless n pieces s v h }
 
-shut_part : (a : Pieces Nothing) (c : sign.Closer) (e : Form) (s : OpenForms) → c ≢ role.part_end → closed c e (part_open a) s ≡ None
+shut_part : (a : Pieces Nothing) (c : role.Closer) (e : Form) (s : OpenForms) → c ≢ role.part_end → closed c e (part_open a) s ≡ None
 shut_part a role.part_end e s h = absurd (h refl)
 shut_part a _ e s h = refl
 

@@ -115,7 +115,7 @@ draws_some _ = omega arith
 
 -- an expression that goes no further, in a form that no symbol here closes
 sticks_by : (x : Continuation) (e : Form) (f : OpenForm) (s : OpenForms) → least_power_at f ≡ 0 → (strength_of x < 1) ⊎ (ends e ≤ strength_of x)
-    → ((c : sign.Closer) → x ≡ closes c → closed c e f s ≡ None) → goes_on e (f ∷ s) x ≡ None
+    → ((c : role.Closer) → x ≡ closes c → closed c e f s ≡ None) → goes_on e (f ∷ s) x ≡ None
 sticks_by (draws d) e f s own (inl h) shut = absurd (omega (arith, draws_some d))
 sticks_by (draws d) e f s own (inr h) shut =
     ap (continued (draws d)) (releases_none false (draw_strength d) (f ∷ s) e (omega arith))
@@ -126,17 +126,17 @@ sticks_by (closes c) e f s own h shut =
 sticks_by neither e f s own h shut = refl
 
 pub unclosed : (n : ℕ) (e : Form) (f : OpenForm) (s : OpenForms) (v : List Symbol) → least_power_at f ≡ 0 → Rests 1 (ends e) v
-    → ((c : sign.Closer) → head_continuation v ≡ closes c → closed c e f s ≡ None) → walk n (holds e (f ∷ s)) v ≡ short v
+    → ((c : role.Closer) → head_continuation v ≡ closes c → closed c e f s ≡ None) → walk n (holds e (f ∷ s)) v ≡ short v
 unclosed n e f s [] own h shut = closing_short f _ [] _ own
 unclosed n e f s (t ∷ v) own h shut =
     sticks n (holds e (f ∷ s)) t v (sticks_by (continuation t) e f s own h shut) ∙ closing_short f _ (t ∷ v) _ own
 
 pub unclosed_halts : {room level : ℕ} (e : Form) (f : OpenForm) (v : List Symbol) → least_power_at f ≡ 0 → Rests 1 (ends e) v
-    → ((c : sign.Closer) (s : OpenForms) → head_continuation v ≡ closes c → closed c e f s ≡ None)
+    → ((c : role.Closer) (s : OpenForms) → head_continuation v ≡ closes c → closed c e f s ≡ None)
     → Halts false room level (λ s. holds e (f ∷ s)) v v
 unclosed_halts e f v own h shut = record { same = λ n s whole near is. unclosed n e f s v own h (λ c. shut c s) }
 
-closes_by : (x : Continuation) (c : sign.Closer) (e : Form) (f : OpenForm) (s : OpenForms) (m : State) → x ≡ closes c → least_power_at f ≡ 0 → closed c e f s ≡ Some m
+closes_by : (x : Continuation) (c : role.Closer) (e : Form) (f : OpenForm) (s : OpenForms) (m : State) → x ≡ closes c → least_power_at f ≡ 0 → closed c e f s ≡ Some m
     → goes_on e (f ∷ s) x ≡ Some m
 closes_by x c e f s m is own to =
     ap (goes_on e (f ∷ s)) is
@@ -148,7 +148,7 @@ kept_all arrow n [] h = refl
 kept_all arrow n (f ∷ s) h = ap (λ b. pick b (kept arrow n s) (f ∷ s)) (le-ltb n (ends_at arrow f) h)
 
 -- the token that closes a form
-pub close : {room level : ℕ} {x v : List Symbol} (t : Symbol) (c : sign.Closer) (e : Form) (f : OpenForm) (to : OpenForms → State) → x ≡ t ∷ v → continuation t ≡ closes c
+pub close : {room level : ℕ} {x v : List Symbol} (t : Symbol) (c : role.Closer) (e : Form) (f : OpenForm) (to : OpenForms → State) → x ≡ t ∷ v → continuation t ≡ closes c
     → least_power_at f ≡ 0 → ((s : OpenForms) → closed c e f s ≡ Some (to s)) → ((d : ℕ) → deepened f d ≤ 1 + d) → 2 ≤ room
     → Leads room level (λ s. holds e (f ∷ s)) x to v
 close {room} {level} {x} {v} t c e f to is closing own on deeper deep =

@@ -29,7 +29,7 @@ use Rattle.php_parse_body.proofs.Moves.{sticks, sink, kept_all, leads, leads_hal
 
 -- ---- one expression between two tokens
 
-pub between_reads : {room level : ℕ} {from : OpenForms → State} {x w y v : List Symbol} (f : OpenForm) (e : Form) (c : sign.Closer) (u : Symbol) (to : OpenForms → State)
+pub between_reads : {room level : ℕ} {from : OpenForms → State} {x w y v : List Symbol} (f : OpenForm) (e : Form) (c : role.Closer) (u : Symbol) (to : OpenForms → State)
     → least_power_at f ≡ 0 → ((d : ℕ) → deepened f d ≡ 1 + d) → ((s : OpenForms) → closed c e f s ≡ Some (to s))
     → Leads room level from x (λ s. expects (f ∷ s)) w → Leads (room - 1) 1 (λ s. expects s) w (λ s. holds e s) y → 2 ≤ room → y ≡ u ∷ v → continuation u ≡ closes c
     → Leads room level from x to v
@@ -47,14 +47,14 @@ between_halts {too_deep} {room} {level} f own deeper deep opens r =
 pub between_unclosed : {room level : ℕ} {from : OpenForms → State} {x w y : List Symbol} (f : OpenForm) (e : Form)
     → least_power_at f ≡ 0 → ((d : ℕ) → deepened f d ≡ 1 + d) → 1 ≤ room
     → Leads room level from x (λ s. expects (f ∷ s)) w → Leads (room - 1) 1 (λ s. expects s) w (λ s. holds e s) y → Rests 1 (ends e) y
-    → ((k : sign.Closer) (s : OpenForms) → head_continuation y ≡ closes k → closed k e f s ≡ None)
+    → ((k : role.Closer) (s : OpenForms) → head_continuation y ≡ closes k → closed k e f s ≡ None)
     → Halts false room level from x y
 between_unclosed {room} {level} {from} {x} {w} {y} f e own deeper deep opens r rests shut =
     leads_halts (λ s. expects (f ∷ s)) opens
     (leads_halts (λ s. holds e (f ∷ s)) (inside (room - 1) 1 f (inl own) (omega arith) (λ d. omega (arith, deeper d)) r)
     (unclosed_halts e f y own rests shut))
 
-shut_enclosed : (enclosure : Enclosure) (c : sign.Closer) (e : Form) (s : OpenForms) → c ≢ role.paren → closed c e (enclosed_open enclosure) s ≡ None
+shut_enclosed : (enclosure : Enclosure) (c : role.Closer) (e : Form) (s : OpenForms) → c ≢ role.paren → closed c e (enclosed_open enclosure) s ≡ None
 shut_enclosed enclosure role.paren e s h = absurd (h refl)
 shut_enclosed enclosure _ e s h = refl
 
@@ -113,10 +113,10 @@ leaf_reads t l is begins deep = move t is (λ s near. ap (λ b. started b s) beg
 
 -- ---- `static :: name`
 
-colons_on : (x : sign.Continuation) (s : OpenForms) → x ≡ draws (by_select colons) → static_step s x ≡ Some (past_static_colons s)
+colons_on : (x : role.Continuation) (s : OpenForms) → x ≡ draws (by_select colons) → static_step s x ≡ Some (past_static_colons s)
 colons_on x s is = ap (static_step s) is
 
-colons_deep : (x : sign.Continuation) (s : OpenForms) → x ≡ draws (by_select colons) → static_depth s x ≡ depth s
+colons_deep : (x : role.Continuation) (s : OpenForms) → x ≡ draws (by_select colons) → static_depth s x ≡ depth s
 colons_deep x [] is = refl
 colons_deep x (instance_of_open l ∷ s) is = ap (depth_behind s) is ∙ ap depth (kept_all false 100 s (omega (arith, kept_power s, least_power_most s)))
 colons_deep x (_ ∷ s) is = refl

@@ -47,7 +47,7 @@ pub index_opens : {room : ℕ} {x w : List Symbol} (t : Symbol) (f : Form) → x
     → Leads room 200 (λ s. after f s) x (λ s. expects (index_open f ∷ s)) w
 index_opens t f is drawing low filled deep = leads (λ s. past_index f s) (index_begins t f is drawing low deep) (index_enters f filled)
 
-shut_index : (a : Form) (c : sign.Closer) (e : Form) (s : OpenForms) → c ≢ role.bracket → closed c e (index_open a) s ≡ None
+shut_index : (a : Form) (c : role.Closer) (e : Form) (s : OpenForms) → c ≢ role.bracket → closed c e (index_open a) s ≡ None
 shut_index a role.bracket e s h = absurd (h refl)
 shut_index a _ e s h = refl
 
@@ -81,7 +81,7 @@ computed_opens t u f is drawing low more brace deep =
     leads (λ s. past_arrow thin f s) (arrow_begins t f is drawing low deep)
     (move u more (λ s near. ap (λ b. pick b (Some (expects (computed_open f ∷ s))) (with_member (member_of u) (λ m. holds (selected f thin m) s))) brace) (λ n s near at. omega arith))
 
-shut_computed : (a : Form) (c : sign.Closer) (e : Form) (s : OpenForms) → c ≢ role.brace → closed c e (computed_open a) s ≡ None
+shut_computed : (a : Form) (c : role.Closer) (e : Form) (s : OpenForms) → c ≢ role.brace → closed c e (computed_open a) s ≡ None
 shut_computed a role.brace e s h = absurd (h refl)
 shut_computed a _ e s h = refl
 

@@ -34,7 +34,7 @@ use Rattle.php_parse_body.specs.Answer.{Fails}
 -- ---- lists, from behind their opening token
 
 -- what ends the items of an array or a list
-abbrev pub closer_in : ArrayForm → sign.Closer
+abbrev pub closer_in : ArrayForm → role.Closer
 closer_in array_form.Brackets = role.bracket
 closer_in _ = role.paren
 

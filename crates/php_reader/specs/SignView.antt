@@ -50,7 +50,7 @@ start_view (start.Prefix op) text = at_prefix op
 start_view start.Yield text = at_yield
 start_view start.Nothing text = at_nothing
 
-abbrev pub closer_view : Closer → sign.Closer
+abbrev pub closer_view : Closer → role.Closer
 closer_view closer.Paren = role.paren
 closer_view closer.Bracket = role.bracket
 closer_view closer.Brace = role.brace
