@@ -119,7 +119,7 @@ int_of_content (truth b) = as_int (int_of (scalar.Bool b))
 int_of_content (int i) = as_int (int_of (scalar.Int i))
 int_of_content (text bytes) = as_int (int_of (scalar.Str bytes))
 int_of_content (array t) = Some (Ok (scalar.Int (bit_of (has_entries t))))
-int_of_content (object h) = None
+int_of_content (object h) = Some (Err (Throws UNSUPPORTED_OPERANDS))
 
 abbrev pub as_text : Option (List ℕ) → Computed
 as_text None = None
