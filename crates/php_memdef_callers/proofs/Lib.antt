@@ -1,4 +1,1 @@
-pub mod OneBlockLemmas
-pub mod OneBlockCallLemmas
 pub mod WitnessLemmas
-pub mod TestLemmas
