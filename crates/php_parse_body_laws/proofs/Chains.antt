@@ -15,7 +15,8 @@ use Rattle.php_ast.specs.expression.View.{Note, view, with_suffix, with_suffixes
 use Rattle.php_build.specs.Flat.{shape, unchained, is_run_top, is_left, suffix_flat, link_row, link_flat, has_power}
 use Rattle.php_parse_body_laws.proofs.Layers.{in_suffix, in_link, two_same}
 use Rattle.php_parse_body_laws.proofs.Unview.{Built, chained, running, apart, close, top_of, suffixed, going_on, linked, joined, unview}
-use Rattle.php_parse_body_laws.proofs.Parts.{first_of, second_of, Known, known, back, named_back, member_back, arguments_back}
+use Rattle.php_build.proofs.Flats.{first_of, second_of}
+use Rattle.php_parse_body_laws.proofs.Parts.{Known, known, back, named_back, member_back, arguments_back}
 
 -- ---- suffixes
 

@@ -22,18 +22,9 @@ use Rattle.php_ast.specs.declared.expression.ClassStep.TheVariants as class_step
 use Rattle.php_ast.specs.expression.Tree.{Tree, Items, and, plain, Pieces, Steps, from}
 use Rattle.php_ast.specs.expression.View.{Note, spot_view, word_view, member_view, piece_more, pieces_from, item_more, items_from, argument_more, arguments_from, values_from, step_more, steps_from, class_view, view}
 use Rattle.php_build.specs.Flat.{Shape, shape, is_flat, piece_flat, item_flat, argument_flat, step_flat, class_flat}
+use Rattle.php_build.proofs.Flats.{first_of, second_of}
 use Rattle.php_parse_body_laws.proofs.Layers.{in_piece, in_item, in_argument, in_step, in_class, two_same}
 use Rattle.php_parse_body_laws.proofs.Unview.{close, top_of, word_at, member_at, named_at, unview, unview_items, unview_arguments, unview_values, unview_pieces, unview_class, start, unview_steps}
-
--- ---- tests
-
-pub first_of : (a b : Bool) → (a && b) ≡ true → a ≡ true
-first_of true b h = refl
-first_of false b h = h
-
-pub second_of : (a b : Bool) → (a && b) ≡ true → b ≡ true
-second_of true b h = h
-second_of false b h = cc
 
 -- ---- what is known of a part
 
