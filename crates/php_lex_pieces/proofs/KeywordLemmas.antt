@@ -1,5 +1,5 @@
 -- Keywords by their length.
-use Rattle.std.proofs.Common.{◌≡◌, ℕ, suc, Bool, true, false, nat_eq, cond, List, [], ◌∷◌, length, Some, refl, sym, ap, ◌∙◌, arith}
+use Rattle.std.proofs.Common.{◌≡◌, ℕ, zero, suc, ◌≤◌, Bool, true, false, ◌&&◌, nat_eq, nat_lt, cond, List, [], ◌∷◌, length, Some, None, refl, sym, ap, ◌∙◌, arith}
 use Rattle.std.specs.Str.{str_eq_ignore_ascii_case}
 use Rattle.std.proofs.lemmas.Bool.{and_right}
 use Rattle.std.proofs.lemmas.Grind.{common_steps}
@@ -34,3 +34,41 @@ lengths_alike n (row ∷ rows) word is =
 
 pub of_length_alone : (n : ℕ) (word : Text) → length word ≡ n → look_up (of_length n keywords) word ≡ look_up keywords word
 of_length_alone n word is = lengths_alike n keywords word is
+
+-- whether all rows are shorter than a length
+abbrev shorter : ℕ → List (Text × Keyword) → Bool
+shorter n [] = true
+shorter n (row ∷ rows) = nat_lt (length row.0) n && shorter n rows
+
+none_of_length : (limit n : ℕ) (rows : List (Text × Keyword)) → shorter limit rows ≡ true → limit ≤ n → of_length n rows ≡ []
+none_of_length limit n [] short over = refl
+none_of_length limit n (row ∷ rows) short over =
+    let more : shorter limit rows ≡ true = grind (arith, common_steps) in
+    let other : nat_eq (length row.0) n ≡ false = grind (arith, common_steps) in
+    ap (λ fits. cond fits (row ∷ of_length n rows) (of_length n rows)) other ∙ none_of_length limit n rows more over
+
+pub of_length_above : (word : Text) → 16 ≤ length word → None ≡ look_up keywords word
+unfolding keywords
+of_length_above word over = ap (λ rows. look_up rows word) (sym (none_of_length 16 (length word) keywords refl over)) ∙ of_length_alone (length word) word refl
+
+pub one_of_seventeen : {A : Type 0} (n : ℕ) → n ≤ 16
+    → (n ≡ 0 → A) → (n ≡ 1 → A) → (n ≡ 2 → A) → (n ≡ 3 → A) → (n ≡ 4 → A) → (n ≡ 5 → A) → (n ≡ 6 → A) → (n ≡ 7 → A) → (n ≡ 8 → A) → (n ≡ 9 → A)
+    → (n ≡ 10 → A) → (n ≡ 11 → A) → (n ≡ 12 → A) → (n ≡ 13 → A) → (n ≡ 14 → A) → (n ≡ 15 → A) → (n ≡ 16 → A) → A
+one_of_seventeen zero within a b c d e f g h i j k l m n o p q = a refl
+one_of_seventeen (suc zero) within a b c d e f g h i j k l m n o p q = b refl
+one_of_seventeen (suc (suc zero)) within a b c d e f g h i j k l m n o p q = c refl
+one_of_seventeen (suc (suc (suc zero))) within a b c d e f g h i j k l m n o p q = d refl
+one_of_seventeen (suc (suc (suc (suc zero)))) within a b c d e f g h i j k l m n o p q = e refl
+one_of_seventeen (suc (suc (suc (suc (suc zero))))) within a b c d e f g h i j k l m n o p q = f refl
+one_of_seventeen (suc (suc (suc (suc (suc (suc zero)))))) within a b c d e f g h i j k l m n o p q = g refl
+one_of_seventeen (suc (suc (suc (suc (suc (suc (suc zero))))))) within a b c d e f g h i j k l m n o p q = h refl
+one_of_seventeen (suc (suc (suc (suc (suc (suc (suc (suc zero)))))))) within a b c d e f g h i j k l m n o p q = i refl
+one_of_seventeen (suc (suc (suc (suc (suc (suc (suc (suc (suc zero))))))))) within a b c d e f g h i j k l m n o p q = j refl
+one_of_seventeen (suc (suc (suc (suc (suc (suc (suc (suc (suc (suc zero)))))))))) within a b c d e f g h i j k l m n o p q = k refl
+one_of_seventeen (suc (suc (suc (suc (suc (suc (suc (suc (suc (suc (suc zero))))))))))) within a b c d e f g h i j k l m n o p q = l refl
+one_of_seventeen (suc (suc (suc (suc (suc (suc (suc (suc (suc (suc (suc (suc zero)))))))))))) within a b c d e f g h i j k l m n o p q = m refl
+one_of_seventeen (suc (suc (suc (suc (suc (suc (suc (suc (suc (suc (suc (suc (suc zero))))))))))))) within a b c d e f g h i j k l m n o p q = n refl
+one_of_seventeen (suc (suc (suc (suc (suc (suc (suc (suc (suc (suc (suc (suc (suc (suc zero)))))))))))))) within a b c d e f g h i j k l m n o p q = o refl
+one_of_seventeen (suc (suc (suc (suc (suc (suc (suc (suc (suc (suc (suc (suc (suc (suc (suc zero))))))))))))))) within a b c d e f g h i j k l m n o p q = p refl
+one_of_seventeen (suc (suc (suc (suc (suc (suc (suc (suc (suc (suc (suc (suc (suc (suc (suc (suc zero)))))))))))))))) within a b c d e f g h i j k l m n o p q = q refl
+one_of_seventeen (suc (suc (suc (suc (suc (suc (suc (suc (suc (suc (suc (suc (suc (suc (suc (suc (suc n2))))))))))))))))) within a b c d e f g h i j k l m n o p q = absurd (omega arith)

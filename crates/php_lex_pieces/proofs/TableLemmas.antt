@@ -1,8 +1,9 @@
 -- What the tables give.
-use Rattle.std.proofs.Common.{◌≡◌, ℕ, ◌<◌, ◌≤◌, Bool, true, false, ◌&&◌, nat_eq, nat_lt, cond, List, [], ◌∷◌, length, Option, Some, None, refl, sym, ap, ◌∙◌, arith, subst, take}
+use Rattle.std.proofs.Common.{◌≡◌, ℕ, ◌<◌, ◌≤◌, Bool, true, false, ◌&&◌, ◌||◌, nat_eq, nat_lt, cond, List, [], ◌∷◌, length, Option, Some, None, refl, sym, ap, ◌∙◌, arith, subst, take}
 use Rattle.std.specs.Prelude.{IfSome, slice_index}
 use Rattle.std.specs.Cmp.Lexicographic.{pointwise}
 use Rattle.std.specs.List.{starts_with}
+use Rattle.std.proofs.lemmas.Bool.{and_parts, false≢true}
 use Rattle.std.proofs.lemmas.Grind.{common_steps}
 use Rattle.php_token.specs.declared.kind.Punct.{Punct}
 use Rattle.php_lex_pieces.specs.Bytes.{Text}
@@ -64,3 +65,37 @@ begins_alike b ((c ∷ cs, p) ∷ rows) (x ∷ rest) at nonempty =
 pub narrowed : (b : ℕ) (text : Text) → slice_index text 0 ≡ b → first_in (begin_with b punctuators) text ≡ first_in punctuators text
 unfolding punctuators
 narrowed b text at = begins_alike b punctuators text at refl
+
+-- ---- where a text begins with no byte of a table
+
+abbrev pub IsOther : ℕ → List ℕ → Type 0
+IsOther b [] = Unit {0}
+IsOther b (x ∷ bytes) = (b ≡ x → ⊥) × IsOther b bytes
+
+abbrev is_among : List ℕ → ℕ → Bool
+is_among [] b = false
+is_among (x ∷ bytes) b = nat_eq x b || is_among bytes b
+
+-- whether each row begins with one of the bytes
+abbrev begin_among : List ℕ → List (Text × Punct) → Bool
+begin_among bytes [] = true
+begin_among bytes (row ∷ rows) = is_among bytes (slice_index row.0 0) && begin_among bytes rows
+
+unequal : (b x : ℕ) → (b ≡ x → ⊥) → nat_eq x b ≡ false
+unequal b x other = grind (arith, common_steps)
+
+other_is_not_among : (b : ℕ) (bytes : List ℕ) → IsOther b bytes → is_among bytes b ≡ false
+other_is_not_among b [] other = refl
+other_is_not_among b (x ∷ bytes) other = ap (λ t. t || is_among bytes b) (unequal b x other.0) ∙ other_is_not_among b bytes other.1
+
+differs_from : (b x : ℕ) (bytes : List ℕ) → is_among bytes b ≡ false → is_among bytes x ≡ true → nat_eq x b ≡ false
+differs_from b x bytes none some = unequal b x (λ is. absurd (false≢true (sym none ∙ ap (is_among bytes) is ∙ some)))
+
+none_begins : (b : ℕ) (bytes : List ℕ) (rows : List (Text × Punct)) → IsOther b bytes → begin_among bytes rows ≡ true → begin_with b rows ≡ []
+none_begins b bytes [] other begin = refl
+none_begins b bytes (row ∷ rows) other begin =
+    let differs : nat_eq (slice_index row.0 0) b ≡ false = differs_from b (slice_index row.0 0) bytes (other_is_not_among b bytes other) (and_parts _ _ begin).0 in
+    ap (λ begins. cond begins (row ∷ begin_with b rows) (begin_with b rows)) differs ∙ none_begins b bytes rows other (and_parts _ _ begin).1
+
+pub begins_otherwise : (b : ℕ) (bytes : List ℕ) (text : Text) → slice_index text 0 ≡ b → begin_among bytes punctuators ≡ true → IsOther b bytes → None ≡ first_in punctuators text
+begins_otherwise b bytes text at begin other = ap (λ rows. first_in rows text) (sym (none_begins b bytes punctuators other begin)) ∙ narrowed b text at

@@ -8,85 +8,7 @@ use php_token::Keyword;
 
 type Row = (&'static [u8], Keyword);
 
-const KEYWORDS: [Row; 75] = [
-    (b"abstract", Keyword::Abstract),
-    (b"and", Keyword::And),
-    (b"array", Keyword::Array),
-    (b"as", Keyword::As),
-    (b"break", Keyword::Break),
-    (b"callable", Keyword::Callable),
-    (b"case", Keyword::Case),
-    (b"catch", Keyword::Catch),
-    (b"class", Keyword::Class),
-    (b"clone", Keyword::Clone),
-    (b"const", Keyword::Const),
-    (b"continue", Keyword::Continue),
-    (b"declare", Keyword::Declare),
-    (b"default", Keyword::Default),
-    (b"do", Keyword::Do),
-    (b"echo", Keyword::Echo),
-    (b"else", Keyword::Else),
-    (b"elseif", Keyword::ElseIf),
-    (b"empty", Keyword::Empty),
-    (b"endfor", Keyword::EndFor),
-    (b"endforeach", Keyword::EndForeach),
-    (b"endif", Keyword::EndIf),
-    (b"endswitch", Keyword::EndSwitch),
-    (b"endwhile", Keyword::EndWhile),
-    (b"enddeclare", Keyword::EndDeclare),
-    (b"eval", Keyword::Eval),
-    (b"die", Keyword::Exit),
-    (b"exit", Keyword::Exit),
-    (b"extends", Keyword::Extends),
-    (b"final", Keyword::Final),
-    (b"finally", Keyword::Finally),
-    (b"for", Keyword::For),
-    (b"foreach", Keyword::Foreach),
-    (b"function", Keyword::Function),
-    (b"global", Keyword::Global),
-    (b"goto", Keyword::Goto),
-    (b"if", Keyword::If),
-    (b"implements", Keyword::Implements),
-    (b"include", Keyword::Include),
-    (b"include_once", Keyword::IncludeOnce),
-    (b"instanceof", Keyword::InstanceOf),
-    (b"insteadof", Keyword::InsteadOf),
-    (b"interface", Keyword::Interface),
-    (b"isset", Keyword::IsSet),
-    (b"list", Keyword::List),
-    (b"namespace", Keyword::Namespace),
-    (b"new", Keyword::New),
-    (b"or", Keyword::Or),
-    (b"print", Keyword::Print),
-    (b"private", Keyword::Private),
-    (b"protected", Keyword::Protected),
-    (b"public", Keyword::Public),
-    (b"require", Keyword::Require),
-    (b"require_once", Keyword::RequireOnce),
-    (b"return", Keyword::Return),
-    (b"static", Keyword::Static),
-    (b"switch", Keyword::Switch),
-    (b"throw", Keyword::Throw),
-    (b"trait", Keyword::Trait),
-    (b"try", Keyword::Try),
-    (b"unset", Keyword::Unset),
-    (b"use", Keyword::Use),
-    (b"var", Keyword::Var),
-    (b"while", Keyword::While),
-    (b"xor", Keyword::Xor),
-    (b"yield", Keyword::Yield),
-    (b"__halt_compiler", Keyword::HaltCompiler),
-    (b"__CLASS__", Keyword::ClassName),
-    (b"__FUNCTION__", Keyword::FunctionName),
-    (b"__LINE__", Keyword::LineNumber),
-    (b"__METHOD__", Keyword::MethodName),
-    (b"__FILE__", Keyword::FileName),
-    (b"__DIR__", Keyword::DirectoryName),
-    (b"__NAMESPACE__", Keyword::NamespaceName),
-    (b"__TRAIT__", Keyword::TraitName),
-];
-
-// Those of one length, in the same order.
+// Those of one length.
 const OF_TWO: [Row; 4] = [
     (b"as", Keyword::As),
     (b"do", Keyword::Do),
@@ -194,6 +116,27 @@ const OF_THIRTEEN: [Row; 1] = [(b"__NAMESPACE__", Keyword::NamespaceName)];
 
 const OF_FIFTEEN: [Row; 1] = [(b"__halt_compiler", Keyword::HaltCompiler)];
 
+// By their length; the last place stands for all greater ones.
+const BY_LENGTH: &[&[Row]] = &[
+    &[],
+    &[],
+    &OF_TWO,
+    &OF_THREE,
+    &OF_FOUR,
+    &OF_FIVE,
+    &OF_SIX,
+    &OF_SEVEN,
+    &OF_EIGHT,
+    &OF_NINE,
+    &OF_TEN,
+    &[],
+    &OF_TWELVE,
+    &OF_THIRTEEN,
+    &[],
+    &OF_FIFTEEN,
+    &[],
+];
+
 /// Whether the word is the expected one, in any letter case.
 pub(crate) fn is_word(word: &[u8], expected: &[u8]) -> bool
     ensures { result ≡ str_eq_ignore_ascii_case expected.now word.now }
@@ -213,28 +156,11 @@ fn keyword_in(mut table: &[Row], word: &[u8]) -> Option<Keyword>
     None
 }
 
-// Those that have the length of the word, where that is at most fifteen bytes, and else all.
+// Those that have the length of the word.
 fn rows_for(word: &[u8]) -> &'static [Row]
     ensures { look_up (map (λ row. (row.0.now, row.1)) result.now) word.now ≡ look_up keywords word.now }
 {
-    match word.len() {
-        1 => &[],
-        2 => &OF_TWO,
-        3 => &OF_THREE,
-        4 => &OF_FOUR,
-        5 => &OF_FIVE,
-        6 => &OF_SIX,
-        7 => &OF_SEVEN,
-        8 => &OF_EIGHT,
-        9 => &OF_NINE,
-        10 => &OF_TEN,
-        11 => &[],
-        12 => &OF_TWELVE,
-        13 => &OF_THIRTEEN,
-        14 => &[],
-        15 => &OF_FIFTEEN,
-        _ => &KEYWORDS,
-    }
+    BY_LENGTH[word.len().min(16)]
 }
 
 /// The keyword that the word is, in any letter case.

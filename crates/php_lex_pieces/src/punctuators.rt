@@ -8,68 +8,7 @@ use php_token::Punct;
 
 type Row = (&'static [u8], Punct);
 
-// Each one stands before those that it begins with.
-const PUNCTUATORS: [Row; 57] = [
-    (b"===", Punct::Identical),
-    (b"!==", Punct::NotIdentical),
-    (b"<=>", Punct::Spaceship),
-    (b"**=", Punct::PowerAssign),
-    (b"<<=", Punct::ShiftLeftAssign),
-    (b">>=", Punct::ShiftRightAssign),
-    (b"...", Punct::Ellipsis),
-    (b"->", Punct::Arrow),
-    (b"++", Punct::PlusPlus),
-    (b"--", Punct::MinusMinus),
-    (b"**", Punct::StarStar),
-    (b"<<", Punct::ShiftLeft),
-    (b">>", Punct::ShiftRight),
-    (b"<=", Punct::LessEqual),
-    (b">=", Punct::GreaterEqual),
-    (b"==", Punct::EqualEqual),
-    (b"!=", Punct::NotEqual),
-    (b"<>", Punct::LessGreater),
-    (b"&&", Punct::AndAnd),
-    (b"||", Punct::BarBar),
-    (b"*=", Punct::StarAssign),
-    (b"/=", Punct::SlashAssign),
-    (b"%=", Punct::PercentAssign),
-    (b"+=", Punct::PlusAssign),
-    (b"-=", Punct::MinusAssign),
-    (b".=", Punct::DotAssign),
-    (b"&=", Punct::AmpersandAssign),
-    (b"^=", Punct::CaretAssign),
-    (b"|=", Punct::BarAssign),
-    (b"??", Punct::QuestionQuestion),
-    (b"=>", Punct::DoubleArrow),
-    (b"::", Punct::DoubleColon),
-    (b"[", Punct::LeftBracket),
-    (b"]", Punct::RightBracket),
-    (b"(", Punct::LeftParen),
-    (b")", Punct::RightParen),
-    (b"{", Punct::LeftBrace),
-    (b"}", Punct::RightBrace),
-    (b".", Punct::Dot),
-    (b"*", Punct::Star),
-    (b"+", Punct::Plus),
-    (b"-", Punct::Minus),
-    (b"~", Punct::Tilde),
-    (b"!", Punct::Bang),
-    (b"/", Punct::Slash),
-    (b"%", Punct::Percent),
-    (b"<", Punct::Less),
-    (b">", Punct::Greater),
-    (b"^", Punct::Caret),
-    (b"|", Punct::Bar),
-    (b"&", Punct::Ampersand),
-    (b"?", Punct::Question),
-    (b":", Punct::Colon),
-    (b";", Punct::Semicolon),
-    (b"=", Punct::Assign),
-    (b",", Punct::Comma),
-    (b"@", Punct::At),
-];
-
-// Those that begin with one byte, in the same order.
+// Those that begin with one byte. Each one stands before those that it begins with.
 const EQUALS: [Row; 4] = [
     (b"===", Punct::Identical),
     (b"==", Punct::EqualEqual),
@@ -159,6 +98,14 @@ const SEMICOLON: [Row; 1] = [(b";", Punct::Semicolon)];
 
 const COMMA: [Row; 1] = [(b",", Punct::Comma)];
 
+const TILDE: [Row; 1] = [(b"~", Punct::Tilde)];
+
+const PERCENTS: [Row; 2] = [(b"%=", Punct::PercentAssign), (b"%", Punct::Percent)];
+
+const CARETS: [Row; 2] = [(b"^=", Punct::CaretAssign), (b"^", Punct::Caret)];
+
+const AT: [Row; 1] = [(b"@", Punct::At)];
+
 fn first_in(mut table: &[Row], text: &[u8]) -> Option<(Punct, usize)>
     ensures value { result ≡ spec.first_in (map (λ row. (row.0.now, row.1)) table.entry.now) text.now }
     ensures within { IfSome result (λ found. found.1 ≤ length text.now) }
@@ -172,33 +119,63 @@ fn first_in(mut table: &[Row], text: &[u8]) -> Option<(Punct, usize)>
     None
 }
 
-// Those with which the text may begin, where its first byte is a common sign, and else all.
+// Those with which the text may begin.
 fn rows_for(text: &[u8]) -> &'static [Row]
     ensures { spec.first_in (map (λ row. (row.0.now, row.1)) result.now) text.now ≡ spec.punctuator text.now }
 {
-    match byte(text, 0) {
-        b'=' => &EQUALS,
-        b'!' => &BANGS,
-        b'<' => &LESSES,
-        b'*' => &STARS,
-        b'>' => &GREATERS,
-        b'.' => &DOTS,
-        b'-' => &MINUSES,
-        b'+' => &PLUSES,
-        b'&' => &AMPERSANDS,
-        b'|' => &BARS,
-        b'/' => &SLASHES,
-        b'?' => &QUESTIONS,
-        b':' => &COLONS,
-        b'[' => &LEFT_BRACKET,
-        b']' => &RIGHT_BRACKET,
-        b'(' => &LEFT_PAREN,
-        b')' => &RIGHT_PAREN,
-        b'{' => &LEFT_BRACE,
-        b'}' => &RIGHT_BRACE,
-        b';' => &SEMICOLON,
-        b',' => &COMMA,
-        _ => &PUNCTUATORS,
+    let first = byte(text, 0);
+    if first == b'=' {
+        &EQUALS
+    } else if first == b'!' {
+        &BANGS
+    } else if first == b'<' {
+        &LESSES
+    } else if first == b'*' {
+        &STARS
+    } else if first == b'>' {
+        &GREATERS
+    } else if first == b'.' {
+        &DOTS
+    } else if first == b'-' {
+        &MINUSES
+    } else if first == b'+' {
+        &PLUSES
+    } else if first == b'&' {
+        &AMPERSANDS
+    } else if first == b'|' {
+        &BARS
+    } else if first == b'/' {
+        &SLASHES
+    } else if first == b'?' {
+        &QUESTIONS
+    } else if first == b':' {
+        &COLONS
+    } else if first == b'[' {
+        &LEFT_BRACKET
+    } else if first == b']' {
+        &RIGHT_BRACKET
+    } else if first == b'(' {
+        &LEFT_PAREN
+    } else if first == b')' {
+        &RIGHT_PAREN
+    } else if first == b'{' {
+        &LEFT_BRACE
+    } else if first == b'}' {
+        &RIGHT_BRACE
+    } else if first == b';' {
+        &SEMICOLON
+    } else if first == b',' {
+        &COMMA
+    } else if first == b'~' {
+        &TILDE
+    } else if first == b'%' {
+        &PERCENTS
+    } else if first == b'^' {
+        &CARETS
+    } else if first == b'@' {
+        &AT
+    } else {
+        &[]
     }
 }
 
