@@ -6,20 +6,20 @@ use Rattle.php_ast.specs.declared.operator.Count.{Count}
 use Rattle.php_grammar.specs.expression.Role.{Continuation, draws, closes, neither, continuation, strength_of, draw_strength}
 use Rattle.php_grammar.specs.expression.Laws.{head_continuation}
 use Rattle.php_grammar.proofs.expression.Fill.{binary_bound}
-use Rattle.php_reader.specs.declared.sign.Next.{Next}
-use Rattle.php_reader.specs.declared.sign.Next.TheVariants as next
-use Rattle.php_reader.specs.declared.sign.Infix.{Infix}
-use Rattle.php_reader.specs.declared.sign.Infix.TheVariants as operator
-use Rattle.php_reader.specs.declared.sign.Tail.{Tail}
-use Rattle.php_reader.specs.declared.sign.Tail.TheVariants as tail
-use Rattle.php_reader.specs.SignView.{next_view, infix_view, tail_view}
+use Rattle.php_reader.specs.declared.role.Next.{Next}
+use Rattle.php_reader.specs.declared.role.Next.TheVariants as next
+use Rattle.php_reader.specs.declared.role.Infix.{Infix}
+use Rattle.php_reader.specs.declared.role.Infix.TheVariants as operator
+use Rattle.php_reader.specs.declared.role.Tail.{Tail}
+use Rattle.php_reader.specs.declared.role.Tail.TheVariants as tail
+use Rattle.php_reader.specs.RoleView.{next_view, infix_view, tail_view}
 use Rattle.php_ast.specs.Symbol.{Symbol}
 use Rattle.php_grammar.specs.expression.Role.{Beginning, at_leaf, at_static, at_template, at_exit, at_new, at_yield, at_enclosed, at_listed, at_prefix, at_nothing, beginning}
-use Rattle.php_reader.specs.declared.sign.Opening.{Opening}
-use Rattle.php_reader.specs.declared.sign.Opening.TheVariants as opening
-use Rattle.php_reader.specs.declared.sign.Start.{Start}
-use Rattle.php_reader.specs.declared.sign.Start.TheVariants as start
-use Rattle.php_reader.specs.SignView.{opening_view, start_view}
+use Rattle.php_reader.specs.declared.role.Opening.{Opening}
+use Rattle.php_reader.specs.declared.role.Opening.TheVariants as opening
+use Rattle.php_reader.specs.declared.role.Start.{Start}
+use Rattle.php_reader.specs.declared.role.Start.TheVariants as start
+use Rattle.php_reader.specs.RoleView.{opening_view, start_view}
 use Rattle.php_reader.specs.Seen.{Follows, Shows, Stands, Starts, rest}
 use Rattle.php_parse_body.specs.Walk.{Rests, head_strength}
 
@@ -32,12 +32,12 @@ follows_head tokens at (draws d) h = shows_head tokens at (draws d) h
 follows_head tokens at (closes c) h = shows_head tokens at (closes c) h
 
 infix_low : (op : Infix) → draw_strength (infix_view op) < 50
-infix_low (operator.Joins op) = omega (arith, binary_bound op)
-infix_low operator.Checks = omega arith
-infix_low operator.Chooses = omega arith
+infix_low (operator.Binary op) = omega (arith, binary_bound op)
+infix_low operator.InstanceOf = omega arith
+infix_low operator.Choice = omega arith
 
 tail_high : (t : Tail) → 100 ≤ draw_strength (tail_view t)
-tail_high tail.Applies = omega arith
+tail_high tail.Call = omega arith
 tail_high _ = omega arith
 
 -- by the number that the first symbol draws
@@ -49,25 +49,25 @@ lowered least k level n (inr h) g = inr h
 strength_is : (tokens : List Token) (at : ℕ) (n : Next) → Follows tokens at (next_view n) → head_strength (rest tokens at) ≡ strength_of (next_view n)
 strength_is tokens at n h = ap strength_of (follows_head tokens at (next_view n) h)
 
-unchanged_by : (n : Next) (k : ℕ) → k ≡ strength_of (next_view n) → ((op : Assign) → n ≢ next.Sets op) → ((count : Count) → n ≢ next.Counts count) → (k < 50) ⊎ (90 ≤ k)
-unchanged_by (next.Operator op) k is a b = inl (omega (arith, infix_low op))
-unchanged_by (next.Sets op) k is a b = absurd (a op refl)
-unchanged_by (next.Counts count) k is a b = absurd (b count refl)
+unchanged_by : (n : Next) (k : ℕ) → k ≡ strength_of (next_view n) → ((op : Assign) → n ≢ next.Assign op) → ((count : Count) → n ≢ next.Count count) → (k < 50) ⊎ (90 ≤ k)
+unchanged_by (next.Infix op) k is a b = inl (omega (arith, infix_low op))
+unchanged_by (next.Assign op) k is a b = absurd (a op refl)
+unchanged_by (next.Count count) k is a b = absurd (b count refl)
 unchanged_by (next.Suffix t) k is a b = inr (omega (arith, tail_high t))
 unchanged_by (next.Closes c) k is a b = inl (omega arith)
 unchanged_by next.Neither k is a b = inl (omega arith)
 
 -- no assignment and no counting follows
-pub unchanged : (tokens : List Token) (at : ℕ) (n : Next) → Follows tokens at (next_view n) → ((op : Assign) → n ≢ next.Sets op) → ((count : Count) → n ≢ next.Counts count)
+pub unchanged : (tokens : List Token) (at : ℕ) (n : Next) → Follows tokens at (next_view n) → ((op : Assign) → n ≢ next.Assign op) → ((count : Count) → n ≢ next.Count count)
     → (least : ℕ) → Rests 90 least (rest tokens at) → Rests 50 least (rest tokens at)
 unchanged tokens at n h a b least rests =
     lowered least (head_strength (rest tokens at)) 50 90 rests (unchanged_by n (head_strength (rest tokens at)) (strength_is tokens at n h) a b)
 
 -- no suffix follows
 no_suffix_by : (n : Next) (k : ℕ) → k ≡ strength_of (next_view n) → ((t : Tail) → n ≢ next.Suffix t) → k < 90
-no_suffix_by (next.Operator op) k is a = omega (arith, infix_low op)
-no_suffix_by (next.Sets op) k is a = omega arith
-no_suffix_by (next.Counts count) k is a = omega arith
+no_suffix_by (next.Infix op) k is a = omega (arith, infix_low op)
+no_suffix_by (next.Assign op) k is a = omega arith
+no_suffix_by (next.Count count) k is a = omega arith
 no_suffix_by (next.Suffix t) k is a = absurd (a t refl)
 no_suffix_by (next.Closes c) k is a = omega arith
 no_suffix_by next.Neither k is a = omega arith
@@ -76,15 +76,15 @@ pub no_suffix : (tokens : List Token) (at : ℕ) (n : Next) (edge : ℕ) → Fol
 no_suffix tokens at n edge h a = inl (no_suffix_by n (head_strength (rest tokens at)) (strength_is tokens at n h) a)
 
 -- no operator goes on
-no_operator_by : (n : Next) (k level : ℕ) → 1 ≤ level → k ≡ strength_of (next_view n) → ((op : Infix) → n ≢ next.Operator op) → (k < level) ⊎ (50 ≤ k)
-no_operator_by (next.Operator op) k level some is a = absurd (a op refl)
-no_operator_by (next.Sets op) k level some is a = inr (omega arith)
-no_operator_by (next.Counts count) k level some is a = inr (omega arith)
+no_operator_by : (n : Next) (k level : ℕ) → 1 ≤ level → k ≡ strength_of (next_view n) → ((op : Infix) → n ≢ next.Infix op) → (k < level) ⊎ (50 ≤ k)
+no_operator_by (next.Infix op) k level some is a = absurd (a op refl)
+no_operator_by (next.Assign op) k level some is a = inr (omega arith)
+no_operator_by (next.Count count) k level some is a = inr (omega arith)
 no_operator_by (next.Suffix t) k level some is a = inr (omega (arith, tail_high t))
 no_operator_by (next.Closes c) k level some is a = inl (omega arith)
 no_operator_by next.Neither k level some is a = inl (omega arith)
 
-pub no_operator : (tokens : List Token) (at : ℕ) (n : Next) (level edge : ℕ) → 1 ≤ level → Follows tokens at (next_view n) → ((op : Infix) → n ≢ next.Operator op) → Rests 50 edge (rest tokens at) → Rests level edge (rest tokens at)
+pub no_operator : (tokens : List Token) (at : ℕ) (n : Next) (level edge : ℕ) → 1 ≤ level → Follows tokens at (next_view n) → ((op : Infix) → n ≢ next.Infix op) → Rests 50 edge (rest tokens at) → Rests level edge (rest tokens at)
 no_operator tokens at n level edge some h a rests =
     lowered edge (head_strength (rest tokens at)) level 50 rests (no_operator_by n (head_strength (rest tokens at)) level some (strength_is tokens at n h) a)
 

@@ -18,7 +18,7 @@ use Rattle.php_grammar.specs.expression.Role.{Mark, refers, spreads, ends_item, 
 use Rattle.php_grammar.specs.expression.Machine.{Nothing, Form, of_list, is_plain, past_items, past_value, ended_items}
 use Rattle.php_grammar.specs.expression.Laws.{head_continuation}
 use Rattle.php_parse_body.specs.Walk.{Leads}
-use Rattle.php_build.specs.Parts.{item_parts, argument_parts}
+use Rattle.php_ast.specs.expression.Parts.{argument_with, item_with}
 use Rattle.php_parse_body.specs.Answer.{Spans}
 use Rattle.php_parse_body.specs.ListAnswer.{AnswersKeyed, AnswersItem, SpansItems, closer_in, no_items}
 use Rattle.std.proofs.Common.{Result, Ok, Err}
@@ -42,21 +42,21 @@ noted_more tokens at place items lead e xs is sized =
     ∙ ap (λ k. and (noted_items (notes_of tokens) at items) (noted_lead (notes_of tokens) k lead) (noted (notes_of tokens) (k + size_lead lead) e)) (sym sized)
 
 pub arguments_more : (tokens : List Token) (at place : ℕ) (items : Items Nothing) (lead : Lead Nothing) (e : Form) (xs new : List (Argument Expr)) (x : Argument Expr) → new ≡ xs ++ x ∷ []
-    → arguments_from none (map argument_parts xs) ≡ noted_items (notes_of tokens) at items → at + size_items items + comma_size items ≡ place
-    → ((ys : Items Note) → argument_more ys (argument_parts x) ≡ and ys (noted_lead (notes_of tokens) place lead) (noted (notes_of tokens) (place + size_lead lead) e))
-    → arguments_from none (map argument_parts new) ≡ noted_items (notes_of tokens) at (and items lead e)
+    → arguments_from none (map (argument_with view) xs) ≡ noted_items (notes_of tokens) at items → at + size_items items + comma_size items ≡ place
+    → ((ys : Items Note) → argument_more ys (argument_with view x) ≡ and ys (noted_lead (notes_of tokens) place lead) (noted (notes_of tokens) (place + size_lead lead) e))
+    → arguments_from none (map (argument_with view) new) ≡ noted_items (notes_of tokens) at (and items lead e)
 arguments_more tokens at place items lead e xs new x grown is sized shown =
-    argument_push none xs new x grown ∙ shown (arguments_from none (map argument_parts xs)) ∙ noted_more tokens at place items lead e (arguments_from none (map argument_parts xs)) is sized
+    argument_push none xs new x grown ∙ shown (arguments_from none (map (argument_with view) xs)) ∙ noted_more tokens at place items lead e (arguments_from none (map (argument_with view) xs)) is sized
 
 pub items_more : (tokens : List Token) (at place : ℕ) (items : Items Nothing) (lead : Lead Nothing) (e : Form) (xs new : List (Item Expr)) (x : Item Expr) → new ≡ xs ++ x ∷ []
-    → items_from none (map item_parts xs) ≡ noted_items (notes_of tokens) at items → at + size_items items + comma_size items ≡ place
-    → ((ys : Items Note) → item_more ys (item_parts x) ≡ and ys (noted_lead (notes_of tokens) place lead) (noted (notes_of tokens) (place + size_lead lead) e))
-    → items_from none (map item_parts new) ≡ noted_items (notes_of tokens) at (and items lead e)
+    → items_from none (map (item_with view) xs) ≡ noted_items (notes_of tokens) at items → at + size_items items + comma_size items ≡ place
+    → ((ys : Items Note) → item_more ys (item_with view x) ≡ and ys (noted_lead (notes_of tokens) place lead) (noted (notes_of tokens) (place + size_lead lead) e))
+    → items_from none (map (item_with view) new) ≡ noted_items (notes_of tokens) at (and items lead e)
 items_more tokens at place items lead e xs new x grown is sized shown =
-    item_push none xs new x grown ∙ shown (items_from none (map item_parts xs)) ∙ noted_more tokens at place items lead e (items_from none (map item_parts xs)) is sized
+    item_push none xs new x grown ∙ shown (items_from none (map (item_with view) xs)) ∙ noted_more tokens at place items lead e (items_from none (map (item_with view) xs)) is sized
 
 pub items_skip : (tokens : List Token) (at : ℕ) (items : Items Nothing) (xs new : List (Item Expr)) → new ≡ xs ++ item.Missing ∷ []
-    → items_from none (map item_parts xs) ≡ noted_items (notes_of tokens) at items → items_from none (map item_parts new) ≡ noted_items (notes_of tokens) at (skip items)
+    → items_from none (map (item_with view) xs) ≡ noted_items (notes_of tokens) at items → items_from none (map (item_with view) new) ≡ noted_items (notes_of tokens) at (skip items)
 items_skip tokens at items xs new grown is = item_push none xs new item.Missing grown ∙ ap skip is
 
 pub values_more : (tokens : List Token) (at place : ℕ) (items : Items Nothing) (e : Form) (xs new : List Expr) (x : Expr) → new ≡ xs ++ x ∷ []
@@ -73,10 +73,10 @@ grown_some (y ∷ ys) new x is = ap no_items is
 
 -- the items where a list ends
 pub ended_spans : (tokens : List Token) (at next : ℕ) (items : Items Nothing) (xs new : List (Item Expr)) → is_none items ≡ no_items xs
-    → items_from none (map item_parts xs) ≡ noted_items (notes_of tokens) at items → at + size_items items + comma_size items ≡ next
+    → items_from none (map (item_with view) xs) ≡ noted_items (notes_of tokens) at items → at + size_items items + comma_size items ≡ next
     → (xs ≡ [] → new ≡ []) → ((xs ≡ [] → ⊥) → new ≡ xs ++ item.Missing ∷ [])
-    → SpansItems tokens (items_from none (map item_parts new)) (ended_items items) at (next + 1)
-ended_spans tokens at next none [] new is shown sized a b = record { shown = ap (λ l. items_from none (map item_parts l)) (a refl); sized = omega arith }
+    → SpansItems tokens (items_from none (map (item_with view) new)) (ended_items items) at (next + 1)
+ended_spans tokens at next none [] new is shown sized a b = record { shown = ap (λ l. items_from none (map (item_with view) l)) (a refl); sized = omega arith }
 ended_spans tokens at next (and items lead e) [] new is shown sized a b = cc
 ended_spans tokens at next (skip items) [] new is shown sized a b = cc
 ended_spans tokens at next none (x ∷ xs) new is shown sized a b = cc

@@ -11,7 +11,7 @@ use Rattle.php_ast.specs.Symbol as sort
 use Rattle.php_ast.specs.Symbol.{Symbol}
 use Rattle.php_ast.specs.expression.Proper.{ends}
 use Rattle.php_ast.specs.expression.Tree.{Tree, Items, none, Member, Class, class_name, class_found, Steps, from, step_property, step_index, new, new_with, Pieces, no_piece, bytes, value, template, thin}
-use Rattle.php_ast.specs.expression.View.{Note, step_more, steps_from, piece_more, pieces_from}
+use Rattle.php_ast.specs.expression.View.{Note, step_more, steps_from, piece_more, pieces_from, view}
 use Rattle.php_ast.specs.expression.Placed.{size_class, size_steps, size_pieces, noted, noted_class, noted_steps, noted_member, noted_items, noted_pieces, notes_of}
 use Rattle.php_grammar.specs.expression.Role as role
 use Rattle.php_grammar.specs.expression.Role.{beginning, at_new, at_template, closes, continuation, draws, by_select, word_of}
@@ -20,7 +20,7 @@ use Rattle.php_grammar.specs.expression.Laws.{head_continuation}
 use Rattle.php_grammar.proofs.expression.Fill.{least_power_most}
 use Rattle.php_parse_body.specs.Walk.{Leads, Halts, Rests, walk, short}
 use Rattle.php_reader.specs.Seen.{head_word, named_class, head_class, Mold, is_bytes, is_opened, is_over, is_other, mold, head_mold}
-use Rattle.php_build.specs.Parts.{piece_parts, step_parts}
+use Rattle.php_ast.specs.expression.Parts.{piece_with, step_with}
 use Rattle.php_parse_body.specs.Answer.{Spans}
 use Rattle.php_parse_body.specs.ListAnswer.{SpansItems}
 use Rattle.php_build.proofs.Views.{piece_push, step_push}
@@ -185,15 +185,15 @@ part_unclosed pieces e opens r deep rests shut =
     between_unclosed (part_open pieces) e refl (λ d. refl) deep opens r rests (λ k s h. shut_part pieces k e s (λ p. shut (h ∙ ap closes p)))
 
 pub bytes_more : (tokens : List Token) (at : ℕ) (pieces : Pieces Nothing) (text : List ℕ) (xs longer : List (Piece Expr)) (made : List ℕ) → longer ≡ xs ++ piece.Bytes made ∷ []
-    → pieces_from no_piece (map piece_parts xs) ≡ noted_pieces (notes_of tokens) at pieces → made ≡ text → pieces_from no_piece (map piece_parts longer) ≡ noted_pieces (notes_of tokens) at (bytes pieces text)
+    → pieces_from no_piece (map (piece_with view) xs) ≡ noted_pieces (notes_of tokens) at pieces → made ≡ text → pieces_from no_piece (map (piece_with view) longer) ≡ noted_pieces (notes_of tokens) at (bytes pieces text)
 bytes_more tokens at pieces text xs longer made grown is same = piece_push no_piece xs longer (piece.Bytes made) grown ∙ ap (λ z. bytes z made) is ∙ ap (bytes (noted_pieces (notes_of tokens) at pieces)) same
 
 pub parts_more : (tokens : List Token) (at place : ℕ) (pieces : Pieces Nothing) (form : Form) (xs longer : List (Piece Expr)) (x : Piece Expr) → longer ≡ xs ++ x ∷ []
-    → pieces_from no_piece (map piece_parts xs) ≡ noted_pieces (notes_of tokens) at pieces → at + size_pieces pieces ≡ place
-    → ((ys : Pieces Note) → piece_more ys (piece_parts x) ≡ value ys (noted (notes_of tokens) (place + 1) form))
-    → pieces_from no_piece (map piece_parts longer) ≡ noted_pieces (notes_of tokens) at (value pieces form)
+    → pieces_from no_piece (map (piece_with view) xs) ≡ noted_pieces (notes_of tokens) at pieces → at + size_pieces pieces ≡ place
+    → ((ys : Pieces Note) → piece_more ys (piece_with view x) ≡ value ys (noted (notes_of tokens) (place + 1) form))
+    → pieces_from no_piece (map (piece_with view) longer) ≡ noted_pieces (notes_of tokens) at (value pieces form)
 parts_more tokens at place pieces form xs longer x grown is sized shown =
-    piece_push no_piece xs longer x grown ∙ shown (pieces_from no_piece (map piece_parts xs))
+    piece_push no_piece xs longer x grown ∙ shown (pieces_from no_piece (map (piece_with view) xs))
     ∙ ap (λ z. value z (noted (notes_of tokens) (place + 1) form)) is ∙ ap (λ k. value (noted_pieces (notes_of tokens) at pieces) (noted (notes_of tokens) k form)) (omega arith)
 
 pub template_spans : (tokens : List Token) (made : Tree Note) (spot : Note) (xs : Pieces Note) (pieces : Pieces Nothing) (at next : ℕ) → made ≡ template spot xs → spot ≡ (notes_of tokens).token at → xs ≡ noted_pieces (notes_of tokens) (at + 1) pieces
@@ -204,15 +204,15 @@ template_spans tokens made spot xs pieces at next is noted_is shown sized = reco
 }
 
 pub steps_more : (tokens : List Token) (at : ℕ) (begun : Steps Note) (steps more : Steps Nothing) (xs longer : List (ClassStep Expr)) (x : ClassStep Expr) → longer ≡ xs ++ x ∷ []
-    → steps_from begun (map step_parts xs) ≡ noted_steps (notes_of tokens) at steps → step_more (noted_steps (notes_of tokens) at steps) (step_parts x) ≡ noted_steps (notes_of tokens) at more
-    → steps_from begun (map step_parts longer) ≡ noted_steps (notes_of tokens) at more
-steps_more tokens at begun steps more xs longer x grown is shown = step_push begun xs longer x grown ∙ ap (λ z. step_more z (step_parts x)) is ∙ shown
+    → steps_from begun (map (step_with view) xs) ≡ noted_steps (notes_of tokens) at steps → step_more (noted_steps (notes_of tokens) at steps) (step_with view x) ≡ noted_steps (notes_of tokens) at more
+    → steps_from begun (map (step_with view) longer) ≡ noted_steps (notes_of tokens) at more
+steps_more tokens at begun steps more xs longer x grown is shown = step_push begun xs longer x grown ∙ ap (λ z. step_more z (step_with view x)) is ∙ shown
 
 pub from_shown : (tokens : List Token) (at : ℕ) (spot : Note) (text : List ℕ) (steps : Steps Nothing) → spot ≡ (notes_of tokens).token at → text ≡ (token_at tokens at).text → (xs : List (ClassStep Expr))
-    → steps_from (noted_steps (notes_of tokens) at (from (tt {0}) (token_at tokens at).text)) (map step_parts xs) ≡ noted_steps (notes_of tokens) at steps
-    → class_found (steps_from (from spot text) (map step_parts xs)) ≡ class_found (noted_steps (notes_of tokens) at steps)
+    → steps_from (noted_steps (notes_of tokens) at (from (tt {0}) (token_at tokens at).text)) (map (step_with view) xs) ≡ noted_steps (notes_of tokens) at steps
+    → class_found (steps_from (from spot text) (map (step_with view) xs)) ≡ class_found (noted_steps (notes_of tokens) at steps)
 from_shown tokens at spot text steps noted_is text_is xs shown =
-    ap (λ z. class_found (steps_from z (map step_parts xs))) (ap (λ n. from n text) noted_is ∙ ap (from ((notes_of tokens).token at)) text_is) ∙ ap class_found shown
+    ap (λ z. class_found (steps_from z (map (step_with view) xs))) (ap (λ n. from n text) noted_is ∙ ap (from ((notes_of tokens).token at)) text_is) ∙ ap class_found shown
 
 pub name_shown : (tokens : List Token) (at : ℕ) (spot : Note) (text : List ℕ) → spot ≡ (notes_of tokens).token at → text ≡ (token_at tokens at).text
     → class_name spot text ≡ noted_class (notes_of tokens) at (class_name (tt {0}) (token_at tokens at).text)

@@ -6,11 +6,11 @@ use Rattle.php_ast.specs.expression.Proper.{ends}
 use Rattle.php_ast.specs.expression.Tree.{Tree, Member, append, index, selected, computed, call, Items, none, thin, colons, Arrow}
 use Rattle.php_ast.specs.declared.expression.Expr.{Expr}
 use Rattle.php_ast.specs.declared.expression.Suffix.{Suffix}
-use Rattle.php_ast.specs.expression.View.{Note, with_suffix, with_suffixes}
+use Rattle.php_ast.specs.expression.View.{Note, with_suffix, with_suffixes, view}
 use Rattle.php_ast.specs.expression.Placed.{noted_items}
 use Rattle.php_grammar.specs.expression.Machine.{of_call, past_items, after_by}
 use Rattle.php_ast.specs.expression.Proper.{is_call}
-use Rattle.php_build.specs.Parts.{suffix_parts}
+use Rattle.php_ast.specs.expression.Parts.{suffix_with}
 use Rattle.php_build.proofs.Views.{suffix_push}
 use Rattle.php_ast.specs.expression.Placed.{size, noted, noted_member, notes_of}
 use Rattle.php_grammar.specs.expression.Role as role
@@ -165,10 +165,10 @@ call_spans tokens f items xs start at next sized spans = record {
 -- ---- one suffix more
 
 pub suffix_more : (tokens : List Token) (e : Tree Note) (xs new : List (Suffix Expr)) (x : Suffix Expr) (f g : Form) (at place next : ℕ) → new ≡ xs ++ x ∷ []
-    → Spans tokens (with_suffixes e (map suffix_parts xs)) f at place → Spans tokens (with_suffix (noted (notes_of tokens) at f) (suffix_parts x)) g at next
-    → Spans tokens (with_suffixes e (map suffix_parts new)) g at next
+    → Spans tokens (with_suffixes e (map (suffix_with view) xs)) f at place → Spans tokens (with_suffix (noted (notes_of tokens) at f) (suffix_with view x)) g at next
+    → Spans tokens (with_suffixes e (map (suffix_with view) new)) g at next
 suffix_more tokens e xs new x f g at place next grown a b = record {
-  shown = suffix_push e xs new x grown ∙ ap (λ z. with_suffix z (suffix_parts x)) a.shown ∙ b.shown;
+  shown = suffix_push e xs new x grown ∙ ap (λ z. with_suffix z (suffix_with view x)) a.shown ∙ b.shown;
   sized = b.sized;
 }
 

@@ -22,15 +22,15 @@ use Rattle.php_parse_body.specs.declared.read.Read.{Read}
 use Rattle.php_parse_body.specs.declared.read.Taken.{Taken}
 use Rattle.php_parse_body.specs.declared.read.Operand.{Operand}
 use Rattle.php_parse_body.specs.declared.read.Followed.{Followed}
-use Rattle.php_build.specs.Parts as part
+use Rattle.php_ast.specs.expression.Parts.{suffix_with}
 use Rattle.php_build.specs.Flat.{are_flat_suffixes}
-use Rattle.php_reader.specs.declared.sign.Tail.{Tail}
-use Rattle.php_reader.specs.declared.sign.Opening.{Opening}
-use Rattle.php_reader.specs.declared.sign.Opening.TheVariants as opening
-use Rattle.php_reader.specs.SignView.{tail_view, infix_view}
+use Rattle.php_reader.specs.declared.role.Tail.{Tail}
+use Rattle.php_reader.specs.declared.role.Opening.{Opening}
+use Rattle.php_reader.specs.declared.role.Opening.TheVariants as opening
+use Rattle.php_reader.specs.RoleView.{tail_view, infix_view}
 use Rattle.php_parse_body.specs.declared.prefixes.Change.{Change}
 use Rattle.php_parse_body.specs.declared.prefixes.Change.TheVariants as change
-use Rattle.php_reader.specs.declared.sign.Infix.{Infix}
+use Rattle.php_reader.specs.declared.role.Infix.{Infix}
 use Rattle.php_reader.specs.Seen.{rest, Shows}
 use Rattle.php_parse_body.specs.Walk.{Leads, Halts, Rests}
 
@@ -129,7 +129,7 @@ SeesTail tokens at edge (Some first) = Shows continuation tokens at (draws (tail
 -- a suffix of an operand of some form that begins at a place
 pub record FoundSuffix (room : ℕ) (f : Form) (tokens : List Token) (start at : ℕ) (r : Followed) : Type 0 where
   pub form : Form
-  pub spans : Spans tokens (shown.with_suffix (noted (notes_of tokens) start f) (part.suffix_parts r.suffix)) form start r.next
+  pub spans : Spans tokens (shown.with_suffix (noted (notes_of tokens) start f) (suffix_with view r.suffix)) form start r.next
   pub reads : Leads room 200 (λ s. after f s) (rest tokens at) (λ s. after form s) (rest tokens r.next)
   pub ends_is : ends form ≡ 200
   pub call_is : is_call form ≡ r.is_call
@@ -185,7 +185,7 @@ AnswersNone level tokens at e = Fails 0 level (λ s. expects s) (rest tokens at)
 -- an operand with some suffixes
 pub record OperandSoFar (room : ℕ) (tokens : List Token) (at : ℕ) (first : Expr) (suffixes : List (Suffix Expr)) (least : ℕ) (called : Bool) (next : ℕ) : Type 0 where
   pub form : Form
-  pub spans : Spans tokens (shown.with_suffixes (view first) (map part.suffix_parts suffixes)) form at next
+  pub spans : Spans tokens (shown.with_suffixes (view first) (map (suffix_with view) suffixes)) form at next
   pub flat : are_flat_suffixes suffixes ≡ true
   pub reads : Leads room 200 (λ s. expects s) (rest tokens at) (λ s. after form s) (rest tokens next)
   pub edge_is : ends form ≡ least

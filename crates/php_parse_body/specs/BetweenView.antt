@@ -2,7 +2,8 @@
 use Rattle.std.specs.Prelude.{Bool, true, ◌&&◌}
 use Rattle.php_ast.specs.declared.expression.Expr.{Expr}
 use Rattle.php_ast.specs.expression.Tree.{Tree, binary, choice, short_choice}
-use Rattle.php_ast.specs.Power.{Row, binary_row, choice_row}
+use Rattle.php_ast.specs.declared.power.Row.{Row}
+use Rattle.php_ast.specs.Power.{binary_row, choice_row}
 use Rattle.php_ast.specs.expression.View.{Note, view}
 use Rattle.php_parse_body.specs.declared.pending.Between.{Between}
 use Rattle.php_parse_body.specs.declared.pending.Between.TheVariants as between

@@ -21,7 +21,7 @@ use Rattle.php_reader.specs.declared.reader.Reader.{Reader}
 use Rattle.php_reader.specs.declared.fail.Stop.{Stop}
 use Rattle.php_parse_body.specs.declared.read.Listed.{Listed}
 use Rattle.php_parse_body.specs.declared.read.Entry.{Entry}
-use Rattle.php_build.specs.Parts as part
+use Rattle.php_ast.specs.expression.Parts.{argument_with, class_with, item_with, piece_with, step_with}
 use Rattle.php_build.specs.Flat.{are_flat, is_flat_piece, are_flat_pieces, is_flat_item, are_flat_items, is_flat_argument, are_flat_arguments, is_flat_step, are_flat_steps, is_flat_class}
 use Rattle.php_ast.specs.declared.expression.ClassStep.{ClassStep}
 use Rattle.php_ast.specs.declared.expression.Piece.{Piece}
@@ -45,7 +45,7 @@ pub record SpansItems (tokens : List Token) (xs : tree.Items Note) (items : tree
 
 pub record FoundArguments (room : ℕ) (tokens : List Token) (at : ℕ) (r : Listed (Argument Expr)) : Type 0 where
   pub items : tree.Items Nothing
-  pub spans : SpansItems tokens (shown.arguments_from tree.none (map part.argument_parts r.items)) items at r.next
+  pub spans : SpansItems tokens (shown.arguments_from tree.none (map (argument_with view) r.items)) items at r.next
   pub flat : are_flat_arguments r.items ≡ true
   pub reads : (h : Holder) → is_arguments h ≡ true → Leads room 200 (λ s. past_items h tree.none s) (rest tokens at) (λ s. after (closed_with h items) s) (rest tokens r.next)
   pub ahead : at < r.next
@@ -57,7 +57,7 @@ AnswersArguments reader at (Err e) = (h : Holder) → is_arguments h ≡ true �
 
 pub record FoundItems (form : ArrayForm) (room : ℕ) (tokens : List Token) (at : ℕ) (r : Listed (Item Expr)) : Type 0 where
   pub items : tree.Items Nothing
-  pub spans : SpansItems tokens (shown.items_from tree.none (map part.item_parts r.items)) items at r.next
+  pub spans : SpansItems tokens (shown.items_from tree.none (map (item_with view) r.items)) items at r.next
   pub flat : are_flat_items r.items ≡ true
   pub reads : Leads room 200 (λ s. past_items (of_list (array form)) tree.none s) (rest tokens at) (λ s. holds (tree.listed tt (array form) items) s) (rest tokens r.next)
   pub ahead : at < r.next
@@ -83,7 +83,7 @@ AnswersValues reader at (Err e) = Fails reader.room 200 (λ s. past_items (of_li
 pub record FoundItem (array_of : ArrayForm) (room : ℕ) (tokens : List Token) (at : ℕ) (r : Entry (Item Expr)) : Type 0 where
   pub lead : tree.Lead Nothing
   pub form : Form
-  pub shown : (xs : tree.Items Note) → shown.item_more xs (part.item_parts r.item) ≡ tree.and xs (noted_lead (notes_of tokens) at lead) (noted (notes_of tokens) (at + size_lead lead) form)
+  pub shown : (xs : tree.Items Note) → shown.item_more xs (item_with view r.item) ≡ tree.and xs (noted_lead (notes_of tokens) at lead) (noted (notes_of tokens) (at + size_lead lead) form)
   pub sized : at + size_lead lead + size form ≡ r.next
   pub flat : is_flat_item r.item ≡ true
   pub reads : (items : tree.Items Nothing) → Leads room 200 (λ s. past_items (of_list (array array_of)) items s) (rest tokens at) (λ s. holds form (items_open (of_list (array array_of)) items lead ∷ s)) (rest tokens r.next)
@@ -99,7 +99,7 @@ pub record FoundKeyed (key : Tree Note) (room : ℕ) (tokens : List Token) (at :
   pub form : Form
   pub lead_size : ℕ
   pub shown : (xs : tree.Items Note) (k : Form) (start : ℕ) → key ≡ noted (notes_of tokens) start k
-      → shown.item_more xs (part.item_parts r.item) ≡ tree.and xs (noted_lead (notes_of tokens) start (lead k)) (noted (notes_of tokens) (at + lead_size) form)
+      → shown.item_more xs (item_with view r.item) ≡ tree.and xs (noted_lead (notes_of tokens) start (lead k)) (noted (notes_of tokens) (at + lead_size) form)
   pub lead_sized : (k : Form) → size_lead (lead k) ≡ size k + 1 + lead_size
   pub keyed : (k : Form) → is_plain (lead k) ≡ false
   pub sized : at + lead_size + size form ≡ r.next
@@ -121,7 +121,7 @@ AnswersKeyed key reader at (Err e) = (form : ArrayForm) (items : tree.Items Noth
 pub record FoundArgument (room : ℕ) (tokens : List Token) (at : ℕ) (r : Entry (Argument Expr)) : Type 0 where
   pub lead : tree.Lead Nothing
   pub form : Form
-  pub shown : (xs : tree.Items Note) → shown.argument_more xs (part.argument_parts r.item) ≡ tree.and xs (noted_lead (notes_of tokens) at lead) (noted (notes_of tokens) (at + size_lead lead) form)
+  pub shown : (xs : tree.Items Note) → shown.argument_more xs (argument_with view r.item) ≡ tree.and xs (noted_lead (notes_of tokens) at lead) (noted (notes_of tokens) (at + size_lead lead) form)
   pub sized : at + size_lead lead + size form ≡ r.next
   pub flat : is_flat_argument r.item ≡ true
   pub reads : (h : Holder) (items : tree.Items Nothing) → is_arguments h ≡ true → Leads room 200 (λ s. past_items h items s) (rest tokens at) (λ s. holds form (items_open h items lead ∷ s)) (rest tokens r.next)
@@ -140,7 +140,7 @@ AnswersArgument reader at (Err e) = (h : Holder) (items : tree.Items Nothing) �
 pub record FoundStep (room : ℕ) (tokens : List Token) (at : ℕ) (r : Entry (ClassStep Expr)) : Type 0 where
   pub more : tree.Steps Nothing → tree.Steps Nothing
   pub shown : (steps : tree.Steps Nothing) (start : ℕ) → start + size_steps steps ≡ at
-      → shown.step_more (noted_steps (notes_of tokens) start steps) (part.step_parts r.item) ≡ noted_steps (notes_of tokens) start (more steps)
+      → shown.step_more (noted_steps (notes_of tokens) start steps) (step_with view r.item) ≡ noted_steps (notes_of tokens) start (more steps)
   pub sized : (steps : tree.Steps Nothing) → size_steps (more steps) + at ≡ size_steps steps + r.next
   pub flat : is_flat_step r.item ≡ true
   pub reads : (steps : tree.Steps Nothing) → Leads room 200 (λ s. past_class (tree.class_found steps) s) (rest tokens at) (λ s. past_class (tree.class_found (more steps)) s) (rest tokens r.next)
@@ -158,7 +158,7 @@ is_found _ = false
 -- from a state before the class
 pub record FoundClass (from : OpenForms → State) (room : ℕ) (tokens : List Token) (at : ℕ) (r : Entry (Class Expr)) : Type 0 where
   pub class : tree.Class Nothing
-  pub shown : shown.class_view (part.class_parts r.item) ≡ noted_class (notes_of tokens) at class
+  pub shown : shown.class_view (class_with view r.item) ≡ noted_class (notes_of tokens) at class
   pub sized : at + size_class class ≡ r.next
   pub flat : is_flat_class r.item ≡ true
   pub reads : Leads room 200 from (rest tokens at) (λ s. past_class class s) (rest tokens r.next)
@@ -175,7 +175,7 @@ AnswersClass reader at (Err e) = Fails reader.room 200 (λ s. past_new s) (rest 
 
 pub record FoundPart (room : ℕ) (tokens : List Token) (at : ℕ) (r : Entry (Piece Expr)) : Type 0 where
   pub form : Form
-  pub shown : (pieces : tree.Pieces Note) → shown.piece_more pieces (part.piece_parts r.item) ≡ tree.value pieces (noted (notes_of tokens) (at + 1) form)
+  pub shown : (pieces : tree.Pieces Note) → shown.piece_more pieces (piece_with view r.item) ≡ tree.value pieces (noted (notes_of tokens) (at + 1) form)
   pub sized : at + size form + 2 ≡ r.next
   pub flat : is_flat_piece r.item ≡ true
   pub reads : (pieces : tree.Pieces Nothing) → Leads room 200 (λ s. past_template pieces s) (rest tokens at) (λ s. past_template (tree.value pieces form) s) (rest tokens r.next)
@@ -188,7 +188,7 @@ AnswersPart reader at (Err e) = (pieces : tree.Pieces Nothing) → Fails reader.
 
 pub record FoundPieces (room : ℕ) (tokens : List Token) (at : ℕ) (r : Listed (Piece Expr)) : Type 0 where
   pub pieces : tree.Pieces Nothing
-  pub shown : shown.pieces_from tree.no_piece (map part.piece_parts r.items) ≡ noted_pieces (notes_of tokens) at pieces
+  pub shown : shown.pieces_from tree.no_piece (map (piece_with view) r.items) ≡ noted_pieces (notes_of tokens) at pieces
   pub sized : at + size_pieces pieces + 1 ≡ r.next
   pub flat : are_flat_pieces r.items ≡ true
   pub reads : Leads room 200 (λ s. past_template tree.no_piece s) (rest tokens at) (λ s. holds (tree.template tt pieces) s) (rest tokens r.next)
@@ -203,7 +203,7 @@ AnswersPieces reader at (Err e) = Fails reader.room 200 (λ s. past_template tre
 
 pub record ArgumentsSoFar (room : ℕ) (tokens : List Token) (at : ℕ) (xs : List (Argument Expr)) (next : ℕ) : Type 0 where
   pub items : tree.Items Nothing
-  pub shown : shown.arguments_from tree.none (map part.argument_parts xs) ≡ noted_items (notes_of tokens) at items
+  pub shown : shown.arguments_from tree.none (map (argument_with view) xs) ≡ noted_items (notes_of tokens) at items
   pub sized : at + size_items items + comma_size items ≡ next
   pub flat : are_flat_arguments xs ≡ true
   pub reads : (h : Holder) → is_arguments h ≡ true → Leads room 200 (λ s. past_items h tree.none s) (rest tokens at) (λ s. past_items h items s) (rest tokens next)
@@ -224,7 +224,7 @@ no_items (x ∷ xs) = false
 
 pub record ItemsSoFar (form : ArrayForm) (room : ℕ) (tokens : List Token) (at : ℕ) (xs : List (Item Expr)) (next : ℕ) : Type 0 where
   pub items : tree.Items Nothing
-  pub shown : shown.items_from tree.none (map part.item_parts xs) ≡ noted_items (notes_of tokens) at items
+  pub shown : shown.items_from tree.none (map (item_with view) xs) ≡ noted_items (notes_of tokens) at items
   pub sized : at + size_items items + comma_size items ≡ next
   pub flat : are_flat_items xs ≡ true
   pub none_is : is_none items ≡ no_items xs
@@ -233,7 +233,7 @@ pub record ItemsSoFar (form : ArrayForm) (room : ℕ) (tokens : List Token) (at 
 
 pub record PiecesSoFar (room : ℕ) (tokens : List Token) (at : ℕ) (xs : List (Piece Expr)) (next : ℕ) : Type 0 where
   pub pieces : tree.Pieces Nothing
-  pub shown : shown.pieces_from tree.no_piece (map part.piece_parts xs) ≡ noted_pieces (notes_of tokens) at pieces
+  pub shown : shown.pieces_from tree.no_piece (map (piece_with view) xs) ≡ noted_pieces (notes_of tokens) at pieces
   pub sized : at + size_pieces pieces ≡ next
   pub flat : are_flat_pieces xs ≡ true
   pub reads : Leads room 200 (λ s. past_template tree.no_piece s) (rest tokens at) (λ s. past_template pieces s) (rest tokens next)
@@ -241,7 +241,7 @@ pub record PiecesSoFar (room : ℕ) (tokens : List Token) (at : ℕ) (xs : List 
 
 pub record StepsSoFar (room : ℕ) (tokens : List Token) (at : ℕ) (text : List ℕ) (xs : List (ClassStep Expr)) (next : ℕ) : Type 0 where
   pub steps : tree.Steps Nothing
-  pub shown : shown.steps_from (noted_steps (notes_of tokens) at (tree.from (tt {0}) text)) (map part.step_parts xs) ≡ noted_steps (notes_of tokens) at steps
+  pub shown : shown.steps_from (noted_steps (notes_of tokens) at (tree.from (tt {0}) text)) (map (step_with view) xs) ≡ noted_steps (notes_of tokens) at steps
   pub sized : at + size_steps steps ≡ next
   pub flat : are_flat_steps xs ≡ true
   pub reads : Leads room 200 (λ s. past_new s) (rest tokens at) (λ s. past_class (tree.class_found steps) s) (rest tokens next)

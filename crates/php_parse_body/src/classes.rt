@@ -18,7 +18,7 @@ use php_lex::Tokens;
 use php_reader::Stop;
 use php_reader::limit::{LEAST_POWER, OPEN_NEW};
 use php_reader::look::{class_at, ends_with, name_at, next_at, spot, word_at};
-use php_reader::sign::{ClassKind, Closer, Next, Tail};
+use php_reader::role::{ClassKind, Closer, Next, Tail};
 use sqlite_items::Items;
 use std::alloc::Global;
 
@@ -36,8 +36,8 @@ fn step_at(tokens: &Tokens, at: usize) -> Option<StepKind>
     ensures { SeesStep tokens.now at result }
 {
     match next_at(tokens, at) {
-        Next::Suffix(Tail::Arrow) => Some(StepKind::Property),
-        Next::Suffix(Tail::Subscripts) => Some(StepKind::Index),
+        Next::Suffix(Tail::Property) => Some(StepKind::Property),
+        Next::Suffix(Tail::Index) => Some(StepKind::Index),
         _ => None,
     }
 }
@@ -46,7 +46,7 @@ fn step_at(tokens: &Tokens, at: usize) -> Option<StepKind>
 fn sees_arguments(tokens: &Tokens, at: usize) -> bool
     ensures { SeesArguments tokens.now at result }
 {
-    matches!(next_at(tokens, at), Next::Suffix(Tail::Applies))
+    matches!(next_at(tokens, at), Next::Suffix(Tail::Call))
 }
 
 impl<'t, R: ReadsInner> Parser<'t, R> {

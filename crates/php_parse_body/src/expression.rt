@@ -10,7 +10,7 @@ use crate::pending::Onward;
 use crate::read::Read;
 use php_lex::Tokens;
 use php_reader::look::{next_at, start_at};
-use php_reader::sign::{Infix, Next, Start, infix_strength};
+use php_reader::role::{Infix, Next, Start, infix_strength};
 use php_reader::{Reader, Stop};
 use sqlite_items::Items;
 
@@ -20,7 +20,7 @@ fn operator_at(tokens: &Tokens, at: usize, level: u8, edge: u8) -> Option<Infix>
     requires { 1 ≤ level }
     ensures { SeesInfix tokens.now at level edge result }
 {
-    let Next::Operator(op) = next_at(tokens, at) else {
+    let Next::Infix(op) = next_at(tokens, at) else {
         return None;
     };
     let draws = infix_strength(op);

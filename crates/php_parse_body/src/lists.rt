@@ -12,7 +12,7 @@ ghost use Rattle.php_parse_body.specs.Answer.{AnswersLeaf};
 ghost use Rattle.php_parse_body.specs.ListAnswer.{AnswersArgument, AnswersArguments, AnswersItem, AnswersItems, AnswersKeyed, AnswersValues, closer_in};
 ghost use Rattle.php_build.specs.Flat.{is_flat};
 ghost use Rattle.php_reader.specs.Seen.{Shows, rest};
-ghost use Rattle.php_reader.specs.SignView.{closer_view};
+ghost use Rattle.php_reader.specs.RoleView.{closer_view};
 
 use crate::inner::ReadsInner;
 use crate::parser::Parser;
@@ -23,7 +23,7 @@ use php_lex::Tokens;
 use php_reader::Stop;
 use php_reader::limit::{LEAST_POWER, TOP};
 use php_reader::look::{ends_with, sees_ampersand, sees_paren, sees_reference, sees_spread, spot};
-use php_reader::sign::Closer;
+use php_reader::role::Closer;
 use sqlite_items::Items;
 use std::alloc::{AllocError, Global};
 

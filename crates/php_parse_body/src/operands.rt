@@ -10,8 +10,8 @@ ghost use Rattle.php_ast.specs.expression.Placed.{notes_of};
 ghost use Rattle.php_parse_body.specs.Answer.{AnswersLeaf};
 ghost use Rattle.php_build.specs.Flat.{is_flat_leaf};
 ghost use Rattle.php_reader.specs.Seen.{Shows};
-ghost use Rattle.php_reader.specs.SignView.{leaf_view, opening_view};
-ghost use Rattle.php_reader.specs.declared.sign.Opening.TheVariants.{Static};
+ghost use Rattle.php_reader.specs.RoleView.{leaf_view, opening_view};
+ghost use Rattle.php_reader.specs.declared.role.Opening.TheVariants.{Static};
 
 use crate::inner::ReadsInner;
 use crate::parser::Parser;
@@ -25,7 +25,7 @@ use php_reader::limit::{LEAST_POWER, OPEN_EXIT, TOP};
 use php_reader::look::{
     ends_with, member_at, name_at, sees_paren, sees_right_paren, spot, text_at,
 };
-use php_reader::sign::{Closer, LeafKind, Opening};
+use php_reader::role::{Closer, LeafKind, Opening};
 use std::alloc::Global;
 
 /// An operand of one token.

@@ -10,9 +10,9 @@ ghost use Rattle.php_grammar.specs.expression.Role as role;
 ghost use Rattle.php_grammar.specs.expression.Role.{beginning, closes, continuation, draws, draw_strength, is_colon};
 ghost use Rattle.php_parse_body.specs.Answer.{AnswersBehind};
 ghost use Rattle.php_parse_body.specs.Climb.{AnswersHalf, AnswersOnward};
-ghost use Rattle.php_reader.specs.declared.sign.Opening.TheVariants.{Static};
+ghost use Rattle.php_reader.specs.declared.role.Opening.TheVariants.{Static};
 ghost use Rattle.php_reader.specs.Seen.{Shows};
-ghost use Rattle.php_reader.specs.SignView.{infix_view, opening_view};
+ghost use Rattle.php_reader.specs.RoleView.{infix_view, opening_view};
 
 use crate::inner::ReadsInner;
 use crate::parser::Parser;
@@ -25,7 +25,7 @@ use php_lex::Tokens;
 use php_reader::Stop;
 use php_reader::limit::LEAST_POWER;
 use php_reader::look::{ends_with, opening_at, sees_colon, spot};
-use php_reader::sign::{Closer, Infix, Opening};
+use php_reader::role::{Closer, Infix, Opening};
 use sqlite_items::Boxed;
 use std::alloc::Global;
 
@@ -177,9 +177,9 @@ impl<'t, R: ReadsInner> Parser<'t, R> {
         ensures { AnswersOnward left level self.now.reader result }
     {
         match op {
-            Infix::Joins(binary) => self.joined(left, binary, level),
-            Infix::Chooses => self.chosen(left, level),
-            Infix::Checks => Ok(Onward::Behind(self.checked(left)?)),
+            Infix::Binary(binary) => self.joined(left, binary, level),
+            Infix::Choice => self.chosen(left, level),
+            Infix::InstanceOf => Ok(Onward::Behind(self.checked(left)?)),
         }
     }
 }

@@ -1,7 +1,6 @@
 // Operators whose right side is still to be read.
 
 ghost use Rattle.std.specs.Prelude.{◌≡◌, ◌≤◌, true, IfOk};
-ghost use Rattle.php_ast.specs.PowerView.{row_view};
 ghost use Rattle.php_ast.specs.expression.Proper.{edge, right};
 ghost use Rattle.php_ast.specs.expression.View.{view};
 ghost use Rattle.php_build.specs.Flat.{is_flat};
@@ -45,7 +44,7 @@ pub(crate) enum Onward {
 /// The least power of an operator in the right side of one with this row.
 pub(crate) fn right_of(row: Row) -> u8
     requires { row.power ≤ 49 }
-    ensures { result ≡ right (row_view row) }
+    ensures { result ≡ right row }
 {
     match row.grouping {
         Grouping::ToRight => row.power,
@@ -56,7 +55,7 @@ pub(crate) fn right_of(row: Row) -> u8
 /// What must be more than the power of an operator that follows one with this row.
 pub(crate) fn edge_of(row: Row) -> u8
     requires { row.power ≤ 49 }
-    ensures { result ≡ edge (row_view row) }
+    ensures { result ≡ edge row }
 {
     match row.grouping {
         Grouping::ToLeft => row.power + 1,
@@ -66,7 +65,7 @@ pub(crate) fn edge_of(row: Row) -> u8
 
 /// The row of an operator.
 fn row_at(between: &Between) -> Row
-    ensures row { row_view result ≡ row_between between.now }
+    ensures row { result ≡ row_between between.now }
     ensures small { result.power ≤ 49 }
 {
     match between {

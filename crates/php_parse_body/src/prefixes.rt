@@ -9,10 +9,10 @@ ghost use Rattle.php_grammar.specs.expression.Role as role;
 ghost use Rattle.php_grammar.specs.expression.Role.{beginning, closes, continuation, draws, ends_yield, is_ampersand};
 ghost use Rattle.php_ast.specs.declared.operator.Assign.TheVariants.{Plain};
 ghost use Rattle.php_grammar.specs.expression.Laws.{head_continuation};
-ghost use Rattle.php_reader.specs.declared.sign.Opening.TheVariants.{Static};
+ghost use Rattle.php_reader.specs.declared.role.Opening.TheVariants.{Static};
 ghost use Rattle.php_parse_body.specs.Answer.{AnswersAssigned, AnswersHere, AnswersYield, SeesChange, SeesStatic};
 ghost use Rattle.php_reader.specs.Seen.{Shows, rest, test};
-ghost use Rattle.php_reader.specs.SignView.{opening_view};
+ghost use Rattle.php_reader.specs.RoleView.{opening_view};
 
 use crate::inner::ReadsInner;
 use crate::parser::Parser;
@@ -26,7 +26,7 @@ use php_lex::Tokens;
 use php_reader::Stop;
 use php_reader::limit::OPEN_COUNT;
 use php_reader::look::{ends_with, next_at, sees_ampersand, spot, start_at};
-use php_reader::sign::{Closer, Next, Opening, Start, Tail};
+use php_reader::role::{Closer, Next, Opening, Start, Tail};
 use std::alloc::Global;
 
 /// Whether `static` stands alone, with no `::` behind it.
@@ -35,7 +35,7 @@ pub(crate) fn lacks_colons(tokens: &Tokens, at: usize, opening: Opening) -> bool
     ensures { SeesStatic tokens.now at opening result }
 {
     matches!(opening, Opening::Static)
-        && !matches!(next_at(tokens, at + 1), Next::Suffix(Tail::Colons))
+        && !matches!(next_at(tokens, at + 1), Next::Suffix(Tail::Member))
 }
 
 /// Whether a `yield` in front of a place stands alone.
@@ -81,8 +81,8 @@ fn change_at(tokens: &Tokens, at: usize) -> Option<Change>
     ensures { SeesChange tokens.now at result }
 {
     match next_at(tokens, at) {
-        Next::Sets(op) => Some(Change::Sets(op)),
-        Next::Counts(count) => Some(Change::Counts(count)),
+        Next::Assign(op) => Some(Change::Sets(op)),
+        Next::Count(count) => Some(Change::Counts(count)),
         _ => None,
     }
 }

@@ -9,9 +9,9 @@ ghost use Rattle.php_grammar.specs.expression.Role.{beginning, continuation, dra
 ghost use Rattle.php_grammar.specs.expression.Machine.{Form};
 ghost use Rattle.php_ast.specs.expression.Tree.{thin, colons};
 ghost use Rattle.php_parse_body.specs.Answer.{AnswersOperand, AnswersSuffix, SeesTail};
-ghost use Rattle.php_reader.specs.declared.sign.Opening.TheVariants.{Static};
+ghost use Rattle.php_reader.specs.declared.role.Opening.TheVariants.{Static};
 ghost use Rattle.php_reader.specs.Seen.{Shows, test, rest};
-ghost use Rattle.php_reader.specs.SignView.{opening_view, tail_view};
+ghost use Rattle.php_reader.specs.RoleView.{opening_view, tail_view};
 
 use crate::inner::ReadsInner;
 use crate::parser::Parser;
@@ -22,7 +22,7 @@ use php_lex::Tokens;
 use php_reader::Stop;
 use php_reader::limit::{LEAST_POWER, TOP};
 use php_reader::look::{ends_with, member_at, next_at, sees_left_brace, sees_right_bracket};
-use php_reader::sign::{Closer, Next, Opening, Tail, tail_strength};
+use php_reader::role::{Closer, Next, Opening, Tail, tail_strength};
 use sqlite_items::Items;
 use std::alloc::Global;
 
@@ -156,10 +156,10 @@ impl<'t, R: ReadsInner> Parser<'t, R> {
         ensures { (f : Form) (start : ℕ) → start + size f ≡ at → draw_strength (tail_view first) < ends f → AnswersSuffix self.now.reader f start at result }
     {
         match first {
-            Tail::Applies => self.call(at),
-            Tail::Subscripts => self.index(at),
-            Tail::Arrow => self.selection(at),
-            Tail::Colons => self.member(at),
+            Tail::Call => self.call(at),
+            Tail::Index => self.index(at),
+            Tail::Property => self.selection(at),
+            Tail::Member => self.member(at),
         }
     }
 

@@ -16,7 +16,7 @@ use php_lex::Tokens;
 use php_reader::Stop;
 use php_reader::limit::{LEAST_POWER, TOP};
 use php_reader::look::{ends_with, mold_at, spot, text_at};
-use php_reader::sign::{Closer, Mold};
+use php_reader::role::{Closer, Mold};
 use sqlite_items::Items;
 use std::alloc::Global;
 

@@ -23,7 +23,7 @@ pub const OPEN_NEW: u8 = 80;
 pub const OPEN_COUNT: u8 = 50;
 
 /// How tightly `[`, `->` and `::` draw what stands before them.
-pub const SELECTION_STRENGTH: u8 = 100;
+pub const SELECT_STRENGTH: u8 = 100;
 
 /// How tightly `(` draws what stands before it.
 pub const CALL_STRENGTH: u8 = 110;

@@ -1,6 +1,6 @@
 use Rattle.std.proofs.Common.{arith}
 use Rattle.php_token.specs.Token.{token_at}
-use Rattle.php_reader.specs.SignView.{start_view}
+use Rattle.php_reader.specs.RoleView.{start_view}
 use Rattle.php_parse_body.proofs.Founds.{sinks_here}
 use Rattle.php_parse_body.proofs.Heads.{begun, start_some}
 use Rattle.php_parse_body.proofs.expression.sunk.Goals as goal

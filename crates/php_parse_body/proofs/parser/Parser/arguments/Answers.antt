@@ -1,7 +1,7 @@
 use Rattle.std.proofs.Common.{refl, arith, ap, map}
 use Rattle.php_ast.specs.expression.Tree.{none}
-use Rattle.php_ast.specs.expression.View.{arguments_from}
-use Rattle.php_build.specs.Parts.{argument_parts}
+use Rattle.php_ast.specs.expression.View.{arguments_from, view}
+use Rattle.php_ast.specs.expression.Parts.{argument_with}
 use Rattle.php_parse_body.proofs.Listings.{no_arguments_read, no_arguments_halt}
 use Rattle.php_build.specs.Flat.{are_flat_arguments}
 use Rattle.php_parse_body.proofs.parser.Parser.arguments.Goals as goal
@@ -17,7 +17,7 @@ returns g c =
     let deep = c.args.self.now.deep in
     record {
       items = none;
-      spans = record { shown = ap (λ l. arguments_from none (map argument_parts l)) c.new.ensures; sized = omega arith };
+      spans = record { shown = ap (λ l. arguments_from none (map (argument_with view) l)) c.new.ensures; sized = omega arith };
       flat = ap are_flat_arguments c.new.ensures;
       reads = λ h is. no_arguments_read e.token h is e.stands.is e.role_is (omega arith);
       ahead = omega arith;

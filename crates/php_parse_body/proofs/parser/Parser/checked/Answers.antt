@@ -1,7 +1,7 @@
 use Rattle.std.proofs.Common.{◌+◌, ◌∙◌, refl, arith, ap, sym}
 use Rattle.php_token.specs.Token.{token_at}
 use Rattle.php_ast.specs.expression.Tree.{instance_of_static}
-use Rattle.php_reader.specs.SignView.{opening_view}
+use Rattle.php_reader.specs.RoleView.{opening_view}
 use Rattle.php_parse_body.proofs.Joins.{instance_opens, static_instance_reads, no_operand, static_instance_spans, instance_rests}
 use Rattle.php_parse_body.proofs.parser.Parser.checked.Goals as goal
 

@@ -4,12 +4,11 @@ use Rattle.php_parse_body.proofs.Fails.{later}
 use Rattle.php_token.specs.Token.{token_at}
 use Rattle.php_ast.specs.expression.Placed.{noted_steps, notes_of}
 use Rattle.php_ast.specs.expression.Tree.{class_found, from}
-use Rattle.php_ast.specs.expression.View.{steps_from}
+use Rattle.php_ast.specs.expression.View.{steps_from, view}
 use Rattle.php_grammar.specs.expression.Machine.{past_class}
 use Rattle.php_parse_body.proofs.Moves.{leads}
 use Rattle.php_parse_body.proofs.Makes.{class_reads, steps_more, from_shown}
 use Rattle.std.proofs.Common.{map}
-use Rattle.php_build.specs.Parts.{step_parts}
 use Rattle.php_ast.specs.expression.Parts.{step_with}
 use Rattle.php_build.specs.Flat.{shape, step_flat, are_flat_steps}
 use Rattle.php_build.proofs.Flats.{all_push}
@@ -20,7 +19,7 @@ loop-kind-init g c =
     let o = c.requires.here in
     record {
       steps = from tt (token_at c.args.self.now.reader.tokens.now c.args.at).text;
-      shown = ap (λ l. steps_from (noted_steps (notes_of c.args.self.now.reader.tokens.now) c.args.at (from (tt {0}) (token_at c.args.self.now.reader.tokens.now c.args.at).text)) (map step_parts l)) c.new-steps.ensures;
+      shown = ap (λ l. steps_from (noted_steps (notes_of c.args.self.now.reader.tokens.now) c.args.at (from (tt {0}) (token_at c.args.self.now.reader.tokens.now c.args.at).text)) (map (step_with view) l)) c.new-steps.ensures;
       sized = omega arith;
       flat = ap are_flat_steps c.new-steps.ensures;
       reads = class_reads o.token (class_found (from tt (token_at c.args.self.now.reader.tokens.now c.args.at).text)) o.stands.is o.role_is c.args.self.now.deep;

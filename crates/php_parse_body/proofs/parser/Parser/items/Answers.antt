@@ -9,8 +9,7 @@ use Rattle.php_parse_body.proofs.Moves.{leads, leads_halts}
 use Rattle.php_parse_body.proofs.Listings.{comma_reads, array_reads, item_unclosed, missing_reads, missing_halts, end_reads, end_halts}
 use Rattle.php_parse_body.proofs.ListNotes.{items_more, items_skip, ended_spans, grown_some, shut_array}
 use Rattle.std.proofs.Common.{map}
-use Rattle.php_ast.specs.expression.View.{items_from}
-use Rattle.php_build.specs.Parts.{item_parts}
+use Rattle.php_ast.specs.expression.View.{items_from, view}
 use Rattle.php_parse_body.specs.ListAnswer.{no_items}
 use Rattle.php_ast.specs.expression.Parts.{item_with}
 use Rattle.php_build.specs.Flat.{shape, item_flat, are_flat_items}
@@ -20,7 +19,7 @@ use Rattle.php_parse_body.proofs.parser.Parser.items.Goals as goal
 pub loop-form-init : goal.loop-form-init
 loop-form-init g c = record {
   items = none;
-  shown = ap (λ l. items_from none (map item_parts l)) c.new-items.ensures;
+  shown = ap (λ l. items_from none (map (item_with view) l)) c.new-items.ensures;
   sized = omega arith;
   flat = ap are_flat_items c.new-items.ensures;
   none_is = sym (ap no_items c.new-items.ensures);

@@ -7,7 +7,6 @@ use Rattle.php_parse_body.proofs.Moves.{leads}
 use Rattle.php_parse_body.proofs.Trails.{suffix_more, leaf_after}
 use Rattle.std.proofs.Common.{map, subst}
 use Rattle.php_ast.specs.expression.View.{with_suffixes}
-use Rattle.php_build.specs.Parts.{suffix_parts}
 use Rattle.php_parse_body.specs.Walk.{Rests}
 use Rattle.php_reader.specs.Seen.{rest}
 use Rattle.php_ast.specs.expression.Parts.{suffix_with}
@@ -20,7 +19,7 @@ loop-tail-init g c =
     let r = c.in_ok-first.ensures in (
       record {
         form = r.form;
-        spans = record { shown = ap (λ l. with_suffixes (view c.in_ok-first.field-0.expr) (map suffix_parts l)) c.new-suffixes.ensures ∙ r.spans.shown; sized = r.spans.sized };
+        spans = record { shown = ap (λ l. with_suffixes (view c.in_ok-first.field-0.expr) (map (suffix_with view) l)) c.new-suffixes.ensures ∙ r.spans.shown; sized = r.spans.sized };
         flat = ap are_flat_suffixes c.new-suffixes.ensures;
         reads = leads (λ s. holds r.form s) r.reads (leaf_after r.form _ r.no_call);
         edge_is = r.edge_is;

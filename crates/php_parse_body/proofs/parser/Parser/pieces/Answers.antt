@@ -6,8 +6,7 @@ use Rattle.php_grammar.specs.expression.Machine.{past_template}
 use Rattle.php_parse_body.proofs.Moves.{leads, leads_halts}
 use Rattle.php_parse_body.proofs.Makes.{bytes_read, bytes_more, parts_more, template_reads, template_halts}
 use Rattle.std.proofs.Common.{map}
-use Rattle.php_ast.specs.expression.View.{pieces_from}
-use Rattle.php_build.specs.Parts.{piece_parts}
+use Rattle.php_ast.specs.expression.View.{pieces_from, view}
 use Rattle.php_ast.specs.expression.Parts.{piece_with}
 use Rattle.php_build.specs.Flat.{shape, piece_flat, are_flat_pieces}
 use Rattle.php_build.proofs.Flats.{all_push}
@@ -16,7 +15,7 @@ use Rattle.php_parse_body.proofs.parser.Parser.pieces.Goals as goal
 pub loop-items-init : goal.loop-items-init
 loop-items-init g c = record {
   pieces = no_piece;
-  shown = ap (λ l. pieces_from no_piece (map piece_parts l)) c.new-items.ensures;
+  shown = ap (λ l. pieces_from no_piece (map (piece_with view) l)) c.new-items.ensures;
   sized = omega arith;
   flat = ap are_flat_pieces c.new-items.ensures;
   reads = record { same = λ n s whole near at. refl };

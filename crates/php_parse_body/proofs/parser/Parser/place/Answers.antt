@@ -7,7 +7,7 @@ use Rattle.php_ast.specs.expression.Tree.{count}
 use Rattle.php_grammar.specs.expression.Machine.{holds, after, expects}
 use Rattle.php_reader.specs.Seen.{rest}
 use Rattle.php_grammar.proofs.expression.Trees.{open_by_ends}
-use Rattle.php_reader.specs.SignView.{opening_view}
+use Rattle.php_reader.specs.RoleView.{opening_view}
 use Rattle.php_parse_body.proofs.Moves.{leads, weaken, settle, draw}
 use Rattle.php_parse_body.proofs.Founds.{behind, static_alone}
 use Rattle.php_parse_body.proofs.Joins.{rests_same, counted_spans}

@@ -1,7 +1,7 @@
 use Rattle.std.proofs.Common.{refl, arith}
 use Rattle.php_token.specs.Token.{token_at}
 use Rattle.php_ast.specs.expression.Tree.{leaf}
-use Rattle.php_reader.specs.SignView.{leaf_view}
+use Rattle.php_reader.specs.RoleView.{leaf_view}
 use Rattle.php_parse_body.proofs.Productions.{leaf_reads}
 use Rattle.php_parse_body.proofs.parser.Parser.single.Goals as goal
 

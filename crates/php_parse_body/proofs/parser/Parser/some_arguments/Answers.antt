@@ -8,8 +8,7 @@ use Rattle.php_parse_body.proofs.Moves.{leads, leads_halts}
 use Rattle.php_parse_body.proofs.Listings.{comma_reads, paren_reads, item_unclosed, paren_halts, arguments_paren, arguments_no_array}
 use Rattle.php_parse_body.proofs.ListNotes.{arguments_more}
 use Rattle.std.proofs.Common.{map}
-use Rattle.php_ast.specs.expression.View.{arguments_from}
-use Rattle.php_build.specs.Parts.{argument_parts}
+use Rattle.php_ast.specs.expression.View.{arguments_from, view}
 use Rattle.php_ast.specs.expression.Parts.{argument_with}
 use Rattle.php_build.specs.Flat.{shape, argument_flat, are_flat_arguments}
 use Rattle.php_build.proofs.Flats.{all_push}
@@ -18,7 +17,7 @@ use Rattle.php_parse_body.proofs.parser.Parser.some_arguments.Goals as goal
 pub loop-items-init : goal.loop-items-init
 loop-items-init g c = record {
   items = none;
-  shown = ap (λ l. arguments_from none (map argument_parts l)) c.new-items.ensures;
+  shown = ap (λ l. arguments_from none (map (argument_with view) l)) c.new-items.ensures;
   sized = omega arith;
   flat = ap are_flat_arguments c.new-items.ensures;
   reads = λ h is. record { same = λ n s whole near at. refl };

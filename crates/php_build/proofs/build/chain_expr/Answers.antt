@@ -1,5 +1,5 @@
 use Rattle.php_build.proofs.Flats.{leaf_flat, chain_flat}
-use Rattle.php_build.proofs.build.chained.Goals as goal
+use Rattle.php_build.proofs.build.chain_expr.Goals as goal
 
 pub returns-then-is_empty-clause-flat : goal.returns-then-is_empty-clause-flat
 returns-then-is_empty-clause-flat c = leaf_flat c.args.first c.requires.first

@@ -3,27 +3,27 @@ use Rattle.std.specs.Prelude.{◌≡◌, ◌≢◌, ℕ, Bool, true, false, Opti
 use Rattle.php_ast.specs.expression.Tree.{Leaf, variable, int, string, name, magic, parentheses, emptiness, array, is_set, thin, colons}
 use Rattle.php_grammar.specs.expression.Role as role
 use Rattle.php_grammar.specs.expression.Role.{Beginning, at_leaf, at_static, at_template, at_exit, at_new, at_yield, at_enclosed, at_listed, at_prefix, at_nothing, beginning, Draw, by_binary, by_instance_of, by_choice, by_assign, by_count, by_call, by_index, by_select, Continuation, draws, closes, neither, Mark}
-use Rattle.php_reader.specs.declared.sign.LeafKind.{LeafKind}
-use Rattle.php_reader.specs.declared.sign.LeafKind.TheVariants as leaf
-use Rattle.php_reader.specs.declared.sign.Opening.{Opening}
-use Rattle.php_reader.specs.declared.sign.Opening.TheVariants as opening
-use Rattle.php_reader.specs.declared.sign.Start.{Start}
-use Rattle.php_reader.specs.declared.sign.Start.TheVariants as start
-use Rattle.php_reader.specs.declared.sign.Closer.{Closer}
-use Rattle.php_reader.specs.declared.sign.Closer.TheVariants as closer
-use Rattle.php_reader.specs.declared.sign.Infix.{Infix}
-use Rattle.php_reader.specs.declared.sign.Infix.TheVariants as operator
-use Rattle.php_reader.specs.declared.sign.Tail.{Tail}
-use Rattle.php_reader.specs.declared.sign.Tail.TheVariants as tail
-use Rattle.php_reader.specs.declared.sign.ClassKind.{ClassKind}
-use Rattle.php_reader.specs.declared.sign.ClassKind.TheVariants as class_kind
-use Rattle.php_reader.specs.declared.sign.Mold as rust_mold
-use Rattle.php_reader.specs.declared.sign.Mold.TheVariants as mold
+use Rattle.php_reader.specs.declared.role.LeafKind.{LeafKind}
+use Rattle.php_reader.specs.declared.role.LeafKind.TheVariants as leaf
+use Rattle.php_reader.specs.declared.role.Opening.{Opening}
+use Rattle.php_reader.specs.declared.role.Opening.TheVariants as opening
+use Rattle.php_reader.specs.declared.role.Start.{Start}
+use Rattle.php_reader.specs.declared.role.Start.TheVariants as start
+use Rattle.php_reader.specs.declared.role.Closer.{Closer}
+use Rattle.php_reader.specs.declared.role.Closer.TheVariants as closer
+use Rattle.php_reader.specs.declared.role.Infix.{Infix}
+use Rattle.php_reader.specs.declared.role.Infix.TheVariants as operator
+use Rattle.php_reader.specs.declared.role.Tail.{Tail}
+use Rattle.php_reader.specs.declared.role.Tail.TheVariants as tail
+use Rattle.php_reader.specs.declared.role.ClassKind.{ClassKind}
+use Rattle.php_reader.specs.declared.role.ClassKind.TheVariants as class_kind
+use Rattle.php_reader.specs.declared.role.Mold as rust_mold
+use Rattle.php_reader.specs.declared.role.Mold.TheVariants as mold
 use Rattle.php_ast.specs.expression.Tree.{Class, class_name, class_static, class_found, from}
 use Rattle.php_reader.specs.Seen.{Mold, is_bytes, is_opened, is_over, is_other, NoOperand, head_beginning, rest, Shows}
 use Rattle.php_token.specs.Token.{Token, token_at}
-use Rattle.php_reader.specs.declared.sign.Next.{Next}
-use Rattle.php_reader.specs.declared.sign.Next.TheVariants as next
+use Rattle.php_reader.specs.declared.role.Next.{Next}
+use Rattle.php_reader.specs.declared.role.Next.TheVariants as next
 
 -- of a token with this text
 abbrev pub leaf_view : LeafKind → List ℕ → Leaf
@@ -61,20 +61,20 @@ closer_view closer.Semicolon = role.semicolon
 closer_view closer.EndPart = role.part_end
 
 abbrev pub infix_view : Infix → Draw
-infix_view (operator.Joins op) = by_binary op
-infix_view operator.Checks = by_instance_of
-infix_view operator.Chooses = by_choice
+infix_view (operator.Binary op) = by_binary op
+infix_view operator.InstanceOf = by_instance_of
+infix_view operator.Choice = by_choice
 
 abbrev pub tail_view : Tail → Draw
-tail_view tail.Applies = by_call
-tail_view tail.Subscripts = by_index
-tail_view tail.Arrow = by_select thin
-tail_view tail.Colons = by_select colons
+tail_view tail.Call = by_call
+tail_view tail.Index = by_index
+tail_view tail.Property = by_select thin
+tail_view tail.Member = by_select colons
 
 abbrev pub next_view : Next → Continuation
-next_view (next.Operator op) = draws (infix_view op)
-next_view (next.Sets op) = draws (by_assign op)
-next_view (next.Counts count) = draws (by_count count)
+next_view (next.Infix op) = draws (infix_view op)
+next_view (next.Assign op) = draws (by_assign op)
+next_view (next.Count count) = draws (by_count count)
 next_view (next.Suffix first) = draws (tail_view first)
 next_view (next.Closes closer) = closes (closer_view closer)
 next_view next.Neither = neither

@@ -5,10 +5,10 @@ ghost use Rattle.php_ast.specs.Symbol.{symbol_of};
 ghost use Rattle.php_grammar.specs.expression.Role.{beginning, beginning_keyword, beginning_punct, beginning_cast, continuation, continuation_keyword, continuation_punct, item_mark, draw_strength, draws, at_leaf, refers, spreads};
 ghost use Rattle.php_grammar.specs.expression.Role as role;
 ghost use Rattle.php_ast.specs.expression.Tree as tree;
-ghost use Rattle.php_reader.specs.SignView.{start_view, leaf_view, next_view, infix_view, tail_view, IsMark, class_kind_view, mold_view};
+ghost use Rattle.php_reader.specs.RoleView.{start_view, leaf_view, next_view, infix_view, tail_view, IsMark, class_kind_view, mold_view};
 ghost use Rattle.php_reader.specs.Seen.{named_class, mold};
 
-use crate::limit::{CALL_STRENGTH, SELECTION_STRENGTH};
+use crate::limit::{CALL_STRENGTH, SELECT_STRENGTH};
 use php_ast::{
     ArrayForm, Assign, Binary, Count, Magic, Prefix, row_of, row_of_choice, row_of_instance_of,
 };
@@ -64,34 +64,34 @@ pub enum Closer {
 #[derive(Clone, Copy)]
 pub enum Infix {
     /// An operator with a right side.
-    Joins(Binary),
+    Binary(Binary),
     /// `instanceof`
-    Checks,
+    InstanceOf,
     /// `?`
-    Chooses,
+    Choice,
 }
 
 /// What a suffix begins with.
 #[derive(Clone, Copy)]
 pub enum Tail {
     /// `(`
-    Applies,
+    Call,
     /// `[`
-    Subscripts,
+    Index,
     /// `->`
-    Arrow,
+    Property,
     /// `::`
-    Colons,
+    Member,
 }
 
 /// What a token does behind an expression.
 #[derive(Clone, Copy)]
 pub enum Next {
-    Operator(Infix),
+    Infix(Infix),
     /// An operator of assignment.
-    Sets(Assign),
+    Assign(Assign),
     /// `++` or `--`
-    Counts(Count),
+    Count(Count),
     Suffix(Tail),
     Closes(Closer),
     Neither,
@@ -197,20 +197,20 @@ pub fn start_of(kind: TokenKind, value: i64) -> Start
     }
 }
 
-fn joins(op: Binary) -> Next
+fn binary(op: Binary) -> Next
     ensures { next_view result ≡ draws (role.by_binary op) }
 {
-    Next::Operator(Infix::Joins(op))
+    Next::Infix(Infix::Binary(op))
 }
 
 fn next_of_keyword(keyword: Keyword) -> Next
     ensures { continuation_keyword keyword ≡ next_view result }
 {
     match keyword {
-        Keyword::InstanceOf => Next::Operator(Infix::Checks),
-        Keyword::And => joins(Binary::WordAnd),
-        Keyword::Xor => joins(Binary::WordXor),
-        Keyword::Or => joins(Binary::WordOr),
+        Keyword::InstanceOf => Next::Infix(Infix::InstanceOf),
+        Keyword::And => binary(Binary::WordAnd),
+        Keyword::Xor => binary(Binary::WordXor),
+        Keyword::Or => binary(Binary::WordOr),
         _ => Next::Neither,
     }
 }
@@ -219,58 +219,58 @@ fn next_of_punct(punct: Punct) -> Next
     ensures { continuation_punct punct ≡ next_view result }
 {
     match punct {
-        Punct::LeftBracket => Next::Suffix(Tail::Subscripts),
+        Punct::LeftBracket => Next::Suffix(Tail::Index),
         Punct::RightBracket => Next::Closes(Closer::Bracket),
-        Punct::LeftParen => Next::Suffix(Tail::Applies),
+        Punct::LeftParen => Next::Suffix(Tail::Call),
         Punct::RightParen => Next::Closes(Closer::Paren),
         Punct::RightBrace => Next::Closes(Closer::Brace),
-        Punct::Dot => joins(Binary::Concatenated),
-        Punct::Arrow => Next::Suffix(Tail::Arrow),
-        Punct::PlusPlus => Next::Counts(Count::Up),
-        Punct::MinusMinus => Next::Counts(Count::Down),
-        Punct::StarStar => joins(Binary::Power),
-        Punct::Star => joins(Binary::Times),
-        Punct::Plus => joins(Binary::Plus),
-        Punct::Minus => joins(Binary::Minus),
-        Punct::Slash => joins(Binary::Divided),
-        Punct::Percent => joins(Binary::Remainder),
-        Punct::ShiftLeft => joins(Binary::ShiftedLeft),
-        Punct::ShiftRight => joins(Binary::ShiftedRight),
-        Punct::Less => joins(Binary::Less),
-        Punct::Greater => joins(Binary::Greater),
-        Punct::LessEqual => joins(Binary::LessEqual),
-        Punct::GreaterEqual => joins(Binary::GreaterEqual),
-        Punct::EqualEqual => joins(Binary::Equal),
-        Punct::Identical => joins(Binary::Identical),
-        Punct::NotEqual => joins(Binary::NotEqual),
-        Punct::NotIdentical => joins(Binary::NotIdentical),
-        Punct::LessGreater => joins(Binary::LessGreater),
-        Punct::Spaceship => joins(Binary::Compared),
-        Punct::Caret => joins(Binary::BitXor),
-        Punct::Bar => joins(Binary::BitOr),
-        Punct::Ampersand => joins(Binary::BitAnd),
-        Punct::AndAnd => joins(Binary::LogicalAnd),
-        Punct::BarBar => joins(Binary::LogicalOr),
-        Punct::Question => Next::Operator(Infix::Chooses),
+        Punct::Dot => binary(Binary::Concatenated),
+        Punct::Arrow => Next::Suffix(Tail::Property),
+        Punct::PlusPlus => Next::Count(Count::Up),
+        Punct::MinusMinus => Next::Count(Count::Down),
+        Punct::StarStar => binary(Binary::Power),
+        Punct::Star => binary(Binary::Times),
+        Punct::Plus => binary(Binary::Plus),
+        Punct::Minus => binary(Binary::Minus),
+        Punct::Slash => binary(Binary::Divided),
+        Punct::Percent => binary(Binary::Remainder),
+        Punct::ShiftLeft => binary(Binary::ShiftedLeft),
+        Punct::ShiftRight => binary(Binary::ShiftedRight),
+        Punct::Less => binary(Binary::Less),
+        Punct::Greater => binary(Binary::Greater),
+        Punct::LessEqual => binary(Binary::LessEqual),
+        Punct::GreaterEqual => binary(Binary::GreaterEqual),
+        Punct::EqualEqual => binary(Binary::Equal),
+        Punct::Identical => binary(Binary::Identical),
+        Punct::NotEqual => binary(Binary::NotEqual),
+        Punct::NotIdentical => binary(Binary::NotIdentical),
+        Punct::LessGreater => binary(Binary::LessGreater),
+        Punct::Spaceship => binary(Binary::Compared),
+        Punct::Caret => binary(Binary::BitXor),
+        Punct::Bar => binary(Binary::BitOr),
+        Punct::Ampersand => binary(Binary::BitAnd),
+        Punct::AndAnd => binary(Binary::LogicalAnd),
+        Punct::BarBar => binary(Binary::LogicalOr),
+        Punct::Question => Next::Infix(Infix::Choice),
         Punct::Colon => Next::Closes(Closer::Colon),
         Punct::Semicolon => Next::Closes(Closer::Semicolon),
         Punct::Comma => Next::Closes(Closer::Comma),
-        Punct::QuestionQuestion => joins(Binary::Coalesced),
+        Punct::QuestionQuestion => binary(Binary::Coalesced),
         Punct::DoubleArrow => Next::Closes(Closer::DoubleArrow),
-        Punct::DoubleColon => Next::Suffix(Tail::Colons),
-        Punct::Assign => Next::Sets(Assign::Plain),
-        Punct::PowerAssign => Next::Sets(Assign::Power),
-        Punct::StarAssign => Next::Sets(Assign::Times),
-        Punct::SlashAssign => Next::Sets(Assign::Divided),
-        Punct::PercentAssign => Next::Sets(Assign::Remainder),
-        Punct::PlusAssign => Next::Sets(Assign::Plus),
-        Punct::MinusAssign => Next::Sets(Assign::Minus),
-        Punct::DotAssign => Next::Sets(Assign::Concatenated),
-        Punct::ShiftLeftAssign => Next::Sets(Assign::ShiftedLeft),
-        Punct::ShiftRightAssign => Next::Sets(Assign::ShiftedRight),
-        Punct::AmpersandAssign => Next::Sets(Assign::BitAnd),
-        Punct::CaretAssign => Next::Sets(Assign::BitXor),
-        Punct::BarAssign => Next::Sets(Assign::BitOr),
+        Punct::DoubleColon => Next::Suffix(Tail::Member),
+        Punct::Assign => Next::Assign(Assign::Plain),
+        Punct::PowerAssign => Next::Assign(Assign::Power),
+        Punct::StarAssign => Next::Assign(Assign::Times),
+        Punct::SlashAssign => Next::Assign(Assign::Divided),
+        Punct::PercentAssign => Next::Assign(Assign::Remainder),
+        Punct::PlusAssign => Next::Assign(Assign::Plus),
+        Punct::MinusAssign => Next::Assign(Assign::Minus),
+        Punct::DotAssign => Next::Assign(Assign::Concatenated),
+        Punct::ShiftLeftAssign => Next::Assign(Assign::ShiftedLeft),
+        Punct::ShiftRightAssign => Next::Assign(Assign::ShiftedRight),
+        Punct::AmpersandAssign => Next::Assign(Assign::BitAnd),
+        Punct::CaretAssign => Next::Assign(Assign::BitXor),
+        Punct::BarAssign => Next::Assign(Assign::BitOr),
         _ => Next::Neither,
     }
 }
@@ -292,9 +292,9 @@ pub fn infix_strength(op: Infix) -> u8
     ensures { result ≡ draw_strength (infix_view op) }
 {
     match op {
-        Infix::Joins(binary) => row_of(binary).power,
-        Infix::Checks => row_of_instance_of().power,
-        Infix::Chooses => row_of_choice().power,
+        Infix::Binary(binary) => row_of(binary).power,
+        Infix::InstanceOf => row_of_instance_of().power,
+        Infix::Choice => row_of_choice().power,
     }
 }
 
@@ -303,8 +303,8 @@ pub fn tail_strength(tail: Tail) -> u8
     ensures { result ≡ draw_strength (tail_view tail) }
 {
     match tail {
-        Tail::Subscripts | Tail::Arrow | Tail::Colons => SELECTION_STRENGTH,
-        Tail::Applies => CALL_STRENGTH,
+        Tail::Index | Tail::Property | Tail::Member => SELECT_STRENGTH,
+        Tail::Call => CALL_STRENGTH,
     }
 }
 
