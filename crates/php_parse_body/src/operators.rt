@@ -212,7 +212,7 @@ pub(crate) fn operator<R: ReadsInner>(
     ensures { AnswersOnward left least parser.now.reader result }
 {
     match op {
-        Infix::Binary(binary) => binary(parser, left, binary, least),
+        Infix::Binary(kind) => binary(parser, left, kind, least),
         Infix::Choice => choice(parser, left, least),
         Infix::InstanceOf => Ok(Onward::Behind(instance_of(parser, left)?)),
     }
