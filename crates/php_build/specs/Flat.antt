@@ -20,8 +20,6 @@ use Rattle.php_ast.specs.declared.expression.ClassStep.{ClassStep}
 use Rattle.php_ast.specs.declared.expression.ClassStep.TheVariants as class_step
 use Rattle.php_ast.specs.declared.expression.Link.{Link}
 use Rattle.php_ast.specs.declared.expression.Link.TheVariants as link
-use Rattle.php_ast.specs.declared.power.Grouping.{Grouping}
-use Rattle.php_ast.specs.declared.power.Grouping.TheVariants.{ToLeft}
 use Rattle.php_ast.specs.declared.power.Row.{Row}
 use Rattle.php_ast.specs.Power.{is_left, binary_row, choice_row}
 use Rattle.php_ast.specs.expression.Parts.{piece_with, item_with, argument_with, suffix_with, step_with, class_with, link_with}

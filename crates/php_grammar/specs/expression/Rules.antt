@@ -5,7 +5,7 @@ use Rattle.php_ast.specs.declared.operator.Binary.{Binary}
 use Rattle.php_ast.specs.declared.operator.Prefix.{Prefix}
 use Rattle.php_ast.specs.expression.Tree.{Tree, prefix, binary, instance_of, instance_of_static, choice, short_choice, assign, yield_nothing, yield_value, yield_pair}
 use Rattle.php_ast.specs.declared.power.Grouping.{Grouping}
-use Rattle.php_ast.specs.declared.power.Grouping.TheVariants.{ToLeft, ToRight}
+use Rattle.php_ast.specs.declared.power.Grouping.TheVariants.{ToRight}
 use Rattle.php_ast.specs.declared.power.Row.{Row}
 use Rattle.php_ast.specs.Power.{is_left, binary_row, choice_row, instance_of_row, assign_row, prefix_power, yield_power}
 use Rattle.php_ast.specs.expression.Proper.{open_yield, power, FitsLeft, FitsRight, Proper}

@@ -2,7 +2,7 @@
 
 use php_ast::{ArrayForm, Assign, Binary, Count, Magic, Prefix};
 
-pub(crate) fn binary_sign(op: Binary) -> &'static str {
+pub(crate) fn binary_characters(op: Binary) -> &'static str {
     match op {
         Binary::Power => "**",
         Binary::Times => "*",
@@ -35,7 +35,7 @@ pub(crate) fn binary_sign(op: Binary) -> &'static str {
     }
 }
 
-pub(crate) fn prefix_sign(op: Prefix) -> &'static str {
+pub(crate) fn prefix_characters(op: Prefix) -> &'static str {
     match op {
         Prefix::Clone => "clone",
         Prefix::Increment => "++",
@@ -54,14 +54,14 @@ pub(crate) fn prefix_sign(op: Prefix) -> &'static str {
     }
 }
 
-pub(crate) fn count_sign(count: Count) -> &'static str {
+pub(crate) fn count_characters(count: Count) -> &'static str {
     match count {
         Count::Up => "++",
         Count::Down => "--",
     }
 }
 
-pub(crate) fn assign_sign(op: Assign) -> &'static str {
+pub(crate) fn assign_characters(op: Assign) -> &'static str {
     match op {
         Assign::Plain => "=",
         Assign::Power => "**=",
