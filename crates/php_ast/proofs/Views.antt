@@ -20,13 +20,13 @@ use Rattle.php_ast.specs.expression.Tree.{Tree}
 use Rattle.php_ast.specs.expression.View.{Note, view, view_step, with_suffixes, with_links}
 use Rattle.php_ast.specs.expression.Parts.{named_with, suffix_with, argument_with, link_with}
 
-map_same : {A B : Type 0} (f g : A → B) → ((x : A) → f x ≡ g x) → (xs : List A) → map f xs ≡ map g xs
+pub map_same : {A B : Type 0} (f g : A → B) → ((x : A) → f x ≡ g x) → (xs : List A) → map f xs ≡ map g xs
 map_same f g same [] = refl
 map_same f g same (x ∷ xs) = ap (λ y. y ∷ map f xs) (same x) ∙ ap (λ ys. g x ∷ ys) (map_same f g same xs)
 
 -- A function that does the same at each variant is the same.
 
-link_same : (h : Link Expr → Link (Tree Note)) → ((op : Binary) (e : Expr) → h (link.Operator op e) ≡ link.Operator op (view e))
+pub link_same : (h : Link Expr → Link (Tree Note)) → ((op : Binary) (e : Expr) → h (link.Operator op e) ≡ link.Operator op (view e))
     → ((a b : Expr) → h (link.Choice a b) ≡ link.Choice (view a) (view b)) → ((b : Expr) → h (link.ShortChoice b) ≡ link.ShortChoice (view b))
     → (x : Link Expr) → h x ≡ link_with view x
 link_same h p q r (link.Operator op e) = p op e
