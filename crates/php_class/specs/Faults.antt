@@ -39,7 +39,7 @@ pub data IsNoParent (rows : List Row) (r : Row) (at : ℕ) : Type 0 where
 pub data Leads (rows : List Row) (last : Text) : Text → Type 0 where
   is_it : (name : Text) → same_name name last ≡ true → Leads rows last name
   goes_on : (name : Text) (number : ℕ) (r : Row) (a : Above) → number_of rows name ≡ Some number → IsRow rows number r
-    → In a r.parents → Leads rows last a.name → Leads rows last name
+      → In a r.parents → Leads rows last a.name → Leads rows last name
 
 -- the first name behind `extends` that leads back
 pub record IsCycle (rows : List Row) (r : Row) (at : ℕ) : Type 0 where
@@ -60,9 +60,9 @@ has_final false m name = false
 -- Private methods count here too.
 pub data IsFinalBroken (rows : List Row) (number : ℕ) (r : Row) (at : ℕ) : Type 0 where
   final_class : (a : Above) (up : ℕ) (above : Row) → In a r.parents → number_of rows a.name ≡ Some up → IsRow rows up above
-    → above.is_final ≡ true → a.place ≡ Some at → IsFinalBroken rows number r at
+      → above.is_final ≡ true → a.place ≡ Some at → IsFinalBroken rows number r at
   final_method : (m : MethodRow) (up : ℕ) (above : Row) (other : MethodRow) → In m r.methods → In up (chain rows number) → (up ≡ number → ⊥)
-    → IsRow rows up above → In other above.methods → has_final other.is_final other m.name ≡ true → m.place ≡ Some at → IsFinalBroken rows number r at
+      → IsRow rows up above → In other above.methods → has_final other.is_final other m.name ≡ true → m.place ≡ Some at → IsFinalBroken rows number r at
 
 -- ---- a member doesn't fit what it stands against
 
@@ -78,9 +78,9 @@ above_classes rows number = kept (λ up. not (nat_eq up number)) (ancestry rows 
 -- A member stands against the one that its class would have from its parent without it, and against each one of an interface.
 pub data Against {A : Type 0} (members : Row → List A) (fits : A → Bool) (rows : List Row) (number : ℕ) : A → Type 0 where
   of_parents : (found : Found_at A) → first_declared members fits rows (kept (λ up. not (nat_eq up number)) (chain rows number)) ≡ Some found
-    → Against members fits rows number found.what
+      → Against members fits rows number found.what
   of_interface : (up : ℕ) (interface : Row) (x : A) → In up (joined (interfaces rows) (chain rows number)) → IsRow rows up interface
-    → In x (members interface) → fits x ≡ true → Against members fits rows number x
+      → In x (members interface) → fits x ≡ true → Against members fits rows number x
 
 pub record Narrows (seen before : Visibility) : Type 0 where
   pub narrower : rank seen < rank before
@@ -146,22 +146,22 @@ is_throwable name = cond (same_name name (codes "Throwable")) true (same_name na
 -- whether something built in stands above a class, apart from the one of this number, that is one of its kind
 abbrev pub built_in_has : List Row → ℕ → ℕ → Bool
 built_in_has rows wanted number =
-  any (λ up. cond (cond (nat_lt up (length built_in)) (not (nat_eq up wanted)) false) (is_a rows up wanted) false) (above_classes rows number)
+    any (λ up. cond (cond (nat_lt up (length built_in)) (not (nat_eq up wanted)) false) (is_a rows up wanted) false) (above_classes rows number)
 
 pub data IsBadOverride (rows : List Row) (number : ℕ) (r : Row) (at : ℕ) : Type 0 where
   method : (m other : MethodRow) → In m r.methods → Against (λ x. x.methods) (λ x. same_name x.name m.name) rows number other
-    → is_private other.seen ≡ false → Clashes m.seen other.seen m.is_static other.is_static → m.place ≡ Some at → IsBadOverride rows number r at
+      → is_private other.seen ≡ false → Clashes m.seen other.seen m.is_static other.is_static → m.place ≡ Some at → IsBadOverride rows number r at
   property : (p other : PropertyRow) → In p r.properties → Against (λ x. x.properties) (λ x. bytes_eq x.name p.name) rows number other
-    → is_private other.seen ≡ false → Clashes p.seen other.seen p.is_static other.is_static → p.place ≡ Some at → IsBadOverride rows number r at
+      → is_private other.seen ≡ false → Clashes p.seen other.seen p.is_static other.is_static → p.place ≡ Some at → IsBadOverride rows number r at
   constant : (c other : ConstantRow) → In c r.constants → Against (λ x. x.constants) (λ x. bytes_eq x.name c.name) rows number other
-    → is_private other.seen ≡ false → Narrows c.seen other.seen → c.place ≡ at → IsBadOverride rows number r at
+      → is_private other.seen ≡ false → Narrows c.seen other.seen → c.place ≡ at → IsBadOverride rows number r at
   -- each abstract method of the name above counts, also behind one that carries it out
   signature : (m : MethodRow) (up : ℕ) (above : Row) (other : MethodRow) → In m r.methods → In up (above_classes rows number) → IsRow rows up above
-    → In other above.methods → same_name other.name m.name ≡ true → other.is_abstract ≡ true → is_private other.seen ≡ false
-    → IsUnfit m.signature other.signature → m.place ≡ Some at → IsBadOverride rows number r at
+      → In other above.methods → same_name other.name m.name ≡ true → other.is_abstract ≡ true → is_private other.seen ≡ false
+      → IsUnfit m.signature other.signature → m.place ≡ Some at → IsBadOverride rows number r at
   -- Throwable or Traversable is named, and nothing else that is built in and has it stands above
   built_in_alone : (a : Above) (wanted : ℕ) → In a (cond (is_class r.kind) r.interfaces r.parents) → is_throwable a.name ≡ true
-    → number_of rows a.name ≡ Some wanted → built_in_has rows wanted number ≡ false → a.place ≡ Some at → IsBadOverride rows number r at
+      → number_of rows a.name ≡ Some wanted → built_in_has rows wanted number ≡ false → a.place ≡ Some at → IsBadOverride rows number r at
 
 -- ---- methods that are missing
 
@@ -227,15 +227,15 @@ LeastPlace rows fault at = (number : ℕ) (r : Row) (other : ℕ) → IsRow rows
 -- In a row, no kind that goes before this one, and of this one no lesser place.
 abbrev pub FirstInRow : List Row → ℕ → Row → Fault → ℕ → Type 0
 FirstInRow rows number r fault at =
-  ((other : Fault) (place : ℕ) → order other < order fault → HasFault rows number r other place → ⊥)
-  × ((place : ℕ) → HasFault rows number r fault place → at ≤ place)
+    ((other : Fault) (place : ℕ) → order other < order fault → HasFault rows number r other place → ⊥)
+    × ((place : ℕ) → HasFault rows number r fault place → at ≤ place)
 
 -- An unknown parent in any class goes first, then a class above itself in any class. Of the others the first class decides.
 pub data IsFirstFault (rows : List Row) : Fault → ℕ → Type 0 where
   parents_first : (number : ℕ) (r : Row) (at : ℕ) → IsRow rows number r → IsNoParent rows r at → LeastPlace rows no_parent at → IsFirstFault rows no_parent at
   then_cycles : (number : ℕ) (r : Row) (at : ℕ) → NoneHas rows no_parent → IsRow rows number r → IsCycle rows r at → LeastPlace rows cycle at
-    → IsFirstFault rows cycle at
+      → IsFirstFault rows cycle at
   then_by_class : (number : ℕ) (r : Row) (fault : Fault) (at : ℕ) → NoneHas rows no_parent → NoneHas rows cycle → order cycle < order fault
-    → IsRow rows number r → HasFault rows number r fault at → FirstInRow rows number r fault at
-    → ((before : ℕ) (s : Row) (kind : Fault) (place : ℕ) → before < number → IsRow rows before s → HasFault rows before s kind place → ⊥)
-    → IsFirstFault rows fault at
+      → IsRow rows number r → HasFault rows number r fault at → FirstInRow rows number r fault at
+      → ((before : ℕ) (s : Row) (kind : Fault) (place : ℕ) → before < number → IsRow rows before s → HasFault rows before s kind place → ⊥)
+      → IsFirstFault rows fault at

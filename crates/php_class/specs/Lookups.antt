@@ -124,7 +124,7 @@ property_along is_static rows class name = first_declared (only is_static) (λ p
 -- A constant is looked for in each class of the chain and in its interfaces, before the parent.
 abbrev pub constant_along : List Row → ℕ → Text → Option (Found_at ConstantRow)
 constant_along rows class name =
-  first_declared (λ r. r.constants) (λ c. bytes_eq c.name name) rows (joined (λ up. up ∷ interfaces rows up) (chain rows class))
+    first_declared (λ r. r.constants) (λ c. bytes_eq c.name name) rows (joined (λ up. up ∷ interfaces rows up) (chain rows class))
 
 -- ---- what is seen
 
@@ -155,15 +155,15 @@ is_private Public = false
 abbrev pub own_private : {A : Type 0} → (Row → List A) → (A → Bool) → (A → Visibility) → List Row → ℕ → Option ℕ → Option (Found_at A)
 own_private members is_it seen rows class None = None
 own_private members is_it seen rows class (Some asking) =
-  cond (is_a rows class asking) (declared_in members (λ x. cond (is_it x) (is_private (seen x)) false) rows asking) None
+    cond (is_a rows class asking) (declared_in members (λ x. cond (is_it x) (is_private (seen x)) false) rows asking) None
 
 abbrev pub method : List Row → ℕ → Text → Option ℕ → Answer
 method rows class name from = answer rows from (λ m. m.seen)
-  (or_else (own_private (λ r. r.methods) (λ m. same_name m.name name) (λ m. m.seen) rows class from) (method_along rows class name))
+    (or_else (own_private (λ r. r.methods) (λ m. same_name m.name name) (λ m. m.seen) rows class from) (method_along rows class name))
 
 abbrev pub property : List Row → ℕ → Text → Option ℕ → Answer
 property rows class name from = answer rows from (λ p. p.seen)
-  (or_else (own_private (only false) (λ p. bytes_eq p.name name) (λ p. p.seen) rows class from) (property_along false rows class name))
+    (or_else (own_private (only false) (λ p. bytes_eq p.name name) (λ p. p.seen) rows class from) (property_along false rows class name))
 
 abbrev pub static_member : List Row → ℕ → Text → Option ℕ → Answer
 static_member rows class name from = answer rows from (λ p. p.seen) (property_along true rows class name)

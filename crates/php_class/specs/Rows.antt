@@ -96,13 +96,16 @@ has_none (Some x) = false
 
 abbrev pub param_mark : Param Note → ParamMark
 param_mark p = record {
-  declared = type_mark p.declared; is_reference = p.is_reference;
-  is_required = cond p.is_variadic false (has_none p.default)
+  declared = type_mark p.declared;
+  is_reference = p.is_reference;
+  is_required = cond p.is_variadic false (has_none p.default);
 }
 
 abbrev pub signature_mark : Method Note → SignatureMark
 signature_mark m = record {
-  is_reference = m.is_reference; params = map param_mark (elements m.signature.params); result = type_mark m.signature.result
+  is_reference = m.is_reference;
+  params = map param_mark (elements m.signature.params);
+  result = type_mark m.signature.result;
 }
 
 abbrev pub is_word : ModifierWord → ModifierWord → Bool
@@ -117,9 +120,13 @@ has_word w m = any (λ x. is_word w x.word) (elements m.modifiers)
 -- A method without a body is abstract: in an interface each is, in a class one with the word.
 abbrev pub method_row : Held → MethodRow
 method_row h = record {
-  name = h.name; place = Some (member_place h.method.name); seen = h.seen;
-  is_static = has_word word.Static h.method; is_abstract = has_none h.method.body; is_final = has_word word.Final h.method;
-  signature = signature_mark h.method
+  name = h.name;
+  place = Some (member_place h.method.name);
+  seen = h.seen;
+  is_static = has_word word.Static h.method;
+  is_abstract = has_none h.method.body;
+  is_final = has_word word.Final h.method;
+  signature = signature_mark h.method;
 }
 
 abbrev pub property_row : Property → PropertyRow
@@ -138,11 +145,16 @@ above n = record { name = n.text; place = Some n.note.place }
 
 abbrev pub row : Flat → Row
 row f = record {
-  kind = f.declared.kind; name = f.declared.name.text; place = Some f.declared.name.note.place;
+  kind = f.declared.kind;
+  name = f.declared.name.text;
+  place = Some f.declared.name.note.place;
   is_abstract = any (λ w. is_class_word class_word.Abstract w.word) f.declared.words;
   is_final = any (λ w. is_class_word class_word.Final w.word) f.declared.words;
-  parents = map above f.declared.parents; interfaces = map above f.declared.interfaces;
-  methods = map method_row f.methods; properties = map property_row f.properties; constants = map constant_row f.constants
+  parents = map above f.declared.parents;
+  interfaces = map above f.declared.interfaces;
+  methods = map method_row f.methods;
+  properties = map property_row f.properties;
+  constants = map constant_row f.constants;
 }
 
 -- ---- built-in rows
@@ -152,8 +164,13 @@ plain_param required = record { declared = None; is_reference = false; is_requir
 
 abbrev pub built_in_method : Text → Bool → List ParamMark → MethodRow
 built_in_method name is_final params = record {
-  name = name; place = None; seen = Public; is_static = false; is_abstract = false; is_final = is_final;
-  signature = record { is_reference = false; params = params; result = None }
+  name = name;
+  place = None;
+  seen = Public;
+  is_static = false;
+  is_abstract = false;
+  is_final = is_final;
+  signature = record { is_reference = false; params = params; result = None };
 }
 
 abbrev pub built_in_property : Text → Visibility → PropertyRow
@@ -164,57 +181,73 @@ extends_built_in name = record { name = name; place = None } ∷ []
 
 abbrev pub built_in_interface : Text → Row
 built_in_interface name = record {
-  kind = of_an_interface; name = name; place = None; is_abstract = false; is_final = false;
-  parents = []; interfaces = []; methods = []; properties = []; constants = []
+  kind = of_an_interface;
+  name = name;
+  place = None;
+  is_abstract = false;
+  is_final = false;
+  parents = [];
+  interfaces = [];
+  methods = [];
+  properties = [];
+  constants = [];
 }
 
 abbrev pub built_in_class : Text → Bool → List Above → List Above → List MethodRow → List PropertyRow → Row
 built_in_class name is_final parents interfaces methods properties = record {
-  kind = of_a_class; name = name; place = None; is_abstract = false; is_final = is_final;
-  parents = parents; interfaces = interfaces; methods = methods; properties = properties; constants = []
+  kind = of_a_class;
+  name = name;
+  place = None;
+  is_abstract = false;
+  is_final = is_final;
+  parents = parents;
+  interfaces = interfaces;
+  methods = methods;
+  properties = properties;
+  constants = [];
 }
 
 -- What Exception and Error have: the constructor may be called with no argument, the questions are final.
 abbrev pub throwable_methods : List MethodRow
 throwable_methods =
-  built_in_method (codes "__construct") false (plain_param false ∷ plain_param false ∷ plain_param false ∷ [])
-  ∷ built_in_method (codes "getMessage") true []
-  ∷ built_in_method (codes "getCode") true []
-  ∷ built_in_method (codes "getPrevious") true []
-  ∷ built_in_method (codes "getLine") true []
-  ∷ built_in_method (codes "__toString") false []
-  ∷ []
+    built_in_method (codes "__construct") false (plain_param false ∷ plain_param false ∷ plain_param false ∷ [])
+    ∷ built_in_method (codes "getMessage") true []
+    ∷ built_in_method (codes "getCode") true []
+    ∷ built_in_method (codes "getPrevious") true []
+    ∷ built_in_method (codes "getLine") true []
+    ∷ built_in_method (codes "__toString") false []
+    ∷ []
 
 abbrev pub throwable_properties : List PropertyRow
 throwable_properties =
-  built_in_property (codes "message") Protected ∷ built_in_property (codes "code") Protected
-  ∷ built_in_property (codes "line") Protected ∷ built_in_property (codes "previous") Private ∷ []
+    built_in_property (codes "message") Protected ∷ built_in_property (codes "code") Protected
+    ∷ built_in_property (codes "line") Protected ∷ built_in_property (codes "previous") Private ∷ []
 
 -- what a Generator is asked and told
 abbrev pub generator_methods : List MethodRow
 generator_methods =
-  built_in_method (codes "current") false []
-  ∷ built_in_method (codes "key") false []
-  ∷ built_in_method (codes "next") false []
-  ∷ built_in_method (codes "send") false (plain_param true ∷ [])
-  ∷ built_in_method (codes "throw") false (plain_param true ∷ [])
-  ∷ built_in_method (codes "valid") false []
-  ∷ built_in_method (codes "rewind") false []
-  ∷ built_in_method (codes "getReturn") false []
-  ∷ []
+    built_in_method (codes "current") false []
+    ∷ built_in_method (codes "key") false []
+    ∷ built_in_method (codes "next") false []
+    ∷ built_in_method (codes "send") false (plain_param true ∷ [])
+    ∷ built_in_method (codes "throw") false (plain_param true ∷ [])
+    ∷ built_in_method (codes "valid") false []
+    ∷ built_in_method (codes "rewind") false []
+    ∷ built_in_method (codes "getReturn") false []
+    ∷ []
 
 abbrev pub built_in : List Row
 built_in =
-  built_in_interface (codes "Traversable")
-  ∷ built_in_interface (codes "Throwable")
-  ∷ built_in_class (codes "Exception") false [] (extends_built_in (codes "Throwable")) throwable_methods throwable_properties
-  ∷ built_in_class (codes "Error") false [] (extends_built_in (codes "Throwable")) throwable_methods throwable_properties
-  ∷ built_in_class (codes "ArithmeticError") false (extends_built_in (codes "Error")) [] [] []
-  ∷ built_in_class (codes "TypeError") false (extends_built_in (codes "Error")) [] [] []
-  ∷ built_in_class (codes "DivisionByZeroError") false (extends_built_in (codes "ArithmeticError")) [] [] []
-  ∷ built_in_class (codes "ArgumentCountError") false (extends_built_in (codes "TypeError")) [] [] []
-  ∷ built_in_class (codes "Generator") true [] (extends_built_in (codes "Traversable")) generator_methods []
-  ∷ []
+    built_in_interface (codes "Traversable")
+    ∷ built_in_interface (codes "Throwable")
+    ∷ built_in_class (codes "Exception") false [] (extends_built_in (codes "Throwable")) throwable_methods throwable_properties
+    ∷ built_in_class (codes "Error") false [] (extends_built_in (codes "Throwable")) throwable_methods throwable_properties
+    ∷ built_in_class (codes "ArithmeticError") false (extends_built_in (codes "Error")) [] [] []
+    ∷ built_in_class (codes "TypeError") false (extends_built_in (codes "Error")) [] [] []
+    ∷ built_in_class (codes "DivisionByZeroError") false (extends_built_in (codes "ArithmeticError")) [] [] []
+    ∷ built_in_class (codes "ArgumentCountError") false (extends_built_in (codes "TypeError")) [] [] []
+    ∷ built_in_class (codes "Generator") true [] (extends_built_in (codes "Traversable")) generator_methods []
+    ∷ []
 
 -- the table of a flat script
 abbrev pub table : List Flat → List Row
