@@ -11,7 +11,7 @@ use Rattle.php_memdef.specs.declared.place.Step.{Step}
 use Rattle.php_memdef.specs.declared.place.Step.TheVariants.{At, Push}
 use Rattle.php_memdef.specs.declared.place.Place.{Place}
 use Rattle.php_memdef.specs.Numbered.{Numbered, numbered}
-use Rattle.php_memdef.specs.Contents.{Content, null, truth, int, text, array, object, Item, value, link, Variable, Object, Mem, scope_of, object_of}
+use Rattle.php_memdef.specs.Contents.{Content, text, object, Item, value, link, Variable, Object, Mem, scope_of}
 use Rattle.php_memdef.specs.Places.{nth_item}
 use Rattle.php_memdef.specs.Views.{found, is_link_item}
 use Rattle.php_memdef.specs.Sound.{TEXT_LIMIT}

@@ -30,9 +30,10 @@ MakesNone Old New NoMemory op = Keeps Old New
 abbrev pub EachMeant : (Mem → Type 0) → (Mem → Type 0) → Type 0
 EachMeant Means P = (m : Mem) → Means m → P m
 
--- a frugal memory makes no more entries than the memory that was meant allows
+-- the count of what was made never falls, and a frugal memory makes no more entries than the memory
+-- that was meant allows
 abbrev pub MakesAtMost : Bool → (Mem → Type 0) → ℕ → ℕ → (Mem → ℕ) → Type 0
-MakesAtMost frugal Old before after cost = IsTrue frugal → (m : Mem) → Old m → after ≤ before + cost m
+MakesAtMost frugal Old before after cost = (before ≤ after) × (IsTrue frugal → (m : Mem) → Old m → after ≤ before + cost m)
 
 -- a block that no memory that was meant has is made in each of them
 abbrev pub Enters : (Mem → Type 0) → (Mem → Type 0) → ℕ → ℕ → Type 0

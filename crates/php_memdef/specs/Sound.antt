@@ -45,6 +45,20 @@ AreSoundItems [] = Unit {0}
 AreSoundItems (value c ∷ is) = IsSoundContent c × AreSoundItems is
 AreSoundItems (link s ∷ is) = AreSoundItems is
 
+-- what falls and is released: a null, a bool, an int or a string is dropped at once and joins no list
+abbrev pub IsSoundFallen : Content → Type 0
+IsSoundFallen null = ⊥
+IsSoundFallen (truth b) = ⊥
+IsSoundFallen (int i) = ⊥
+IsSoundFallen (text bytes) = ⊥
+IsSoundFallen (array t) = IsSoundContent (array t)
+IsSoundFallen (object h) = Unit {0}
+
+abbrev pub AreSoundFalling : List Item → Type 0
+AreSoundFalling [] = Unit {0}
+AreSoundFalling (value c ∷ is) = IsSoundFallen c × AreSoundFalling is
+AreSoundFalling (link s ∷ is) = AreSoundFalling is
+
 abbrev pub HasNoVariable : ℕ → List Variable → Type 0
 HasNoVariable n [] = Unit {0}
 HasNoVariable n (v ∷ vs) = (nat_eq n v.name ≡ false) × HasNoVariable n vs
@@ -68,7 +82,7 @@ AreNamesShort (p ∷ ps) = IsShort p.name.name × AreNamesShort ps
 pub record IsSoundScope (f : Scope) : Type 0 where
   pub variables_distinct : AreVariablesDistinct f.variables
   pub temps : AreSoundItems f.temps
-  pub falling : AreSoundItems f.falling
+  pub falling : AreSoundFalling f.falling
   pub temps_within : length f.temps ≤ f.room
 
 pub record IsSoundObject (o : Object) : Type 0 where

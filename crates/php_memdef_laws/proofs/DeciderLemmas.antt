@@ -20,7 +20,7 @@ use Rattle.php_memdef.specs.Places.{nth_item}
 use Rattle.php_memdef.specs.Views.{is_link_item}
 use Rattle.php_memdef.specs.Sound.{TEXT_LIMIT, IsInt, IsShort, IsKeyWithin}
 use Rattle.php_memdef.specs.Conditions.{HasRoom, HasFallingRoom, HasTemp, IsBase, AreStepsWithin, IsPlace, IsBelowTop, HasStep, IsPointed, IsRemovable, IsLinkable, IsScalarWithin}
-use Rattle.php_memdef.specs.Deciders.{is_block, is_object, has_room, has_falling_room, has_temp, is_value_item, is_handle_item, is_short, is_key_within, are_steps_within, is_scalar_within, is_base, is_place, is_below_top, has_step, is_pointed, is_removable, is_linkable, no_variables, no_items, is_frame, has_frame, is_no_frame, is_no_other_frame, are_joinable, can}
+use Rattle.php_memdef.specs.Deciders.{is_block, is_object, has_room, has_falling_room, has_temp, is_value_item, is_handle_item, is_short, is_key_within, are_steps_within, is_scalar_within, is_base, is_place, is_below_top, has_step, is_pointed, is_removable, is_linkable, no_variables, no_items, is_frame, has_frame, is_no_frame, is_no_other_frame, are_joinable}
 
 pub flag : (b : Bool) → Decides b (b ≡ true)
 flag b = (λ h. h, λ h. h)

@@ -99,7 +99,7 @@ module _ (m : Mem) (b : ℕ) where
   turns_after : (is : List Item) → turns (with_falling m b is) b + (item_names (scope_of m b).falling + values_of (scope_of m b).falling) ≡ turns m b + (item_names is + values_of is)
   turns_after is = omega (arith, blocks_after is, ap values_of (falling_after is))
 
-abbrev TurnEnds : Mem → ℕ → Turn → Type 0
+abbrev pub TurnEnds : Mem → ℕ → Turn → Type 0
 TurnEnds m b (goes_on n) = turns n b < turns m b
 TurnEnds m b (stops n answer) = answer ≡ Nothing → (scope_of n b).falling ≡ []
 
@@ -160,7 +160,7 @@ module _ (m : Mem) (b : ℕ) (rest : List Item) where
   item_ends (value (array t)) falls = replaced_less m b (value (array t)) rest falls (entry_links t.entries) (omega (arith, entry_links_names t.entries, entry_links_values t.entries))
   item_ends (value (object h)) falls = handle_dropped_ends h falls (is_object_held (with_falling m b rest) h)
 
-turn_ends : (m : Mem) (b : ℕ) → TurnEnds m b (turn m b)
+pub turn_ends : (m : Mem) (b : ℕ) → TurnEnds m b (turn m b)
 turn_ends m b = first (scope_of m b).falling refl
   where
     first : (is : List Item) → (scope_of m b).falling ≡ is → TurnEnds m b (first_released is m b)
@@ -181,3 +181,21 @@ fall_within_ends (suc k) m b h = after (turn m b) (turn_ends m b) (λ n less. fa
 pub fall_ends : (m : Mem) (b : ℕ) → (fall m b).1 ≡ Nothing → (scope_of (fall m b).0 b).falling ≡ []
 unfolding fall
 fall_ends m b = fall_within_ends (suc (turns m b)) m b (omega arith)
+
+-- any number of turns that is enough comes to the same
+enough_turns : (k j : ℕ) (m : Mem) (b : ℕ) → turns m b < k → turns m b < j → fall_within k m b ≡ fall_within j m b
+enough_turns zero j m b h i = absurd (omega (arith, h))
+enough_turns (suc k) zero m b h i = absurd (omega (arith, i))
+enough_turns (suc k) (suc j) m b h i = after (turn m b) (turn_ends m b) (λ n less. enough_turns k j n b (omega (arith, h, less)) (omega (arith, i, less)))
+  where
+    after : (t : Turn) → TurnEnds m b t → ((n : Mem) → turns n b < turns m b → fall_within k n b ≡ fall_within j n b) → fall_after t (λ n. fall_within k n b) ≡ fall_after t (λ n. fall_within j n b)
+    after (goes_on n) less go_on = go_on n less
+    after (stops n answer) done go_on = refl
+
+pub fall_unfolds : (m : Mem) (b : ℕ) → fall m b ≡ fall_after (turn m b) (λ n. fall n b)
+unfolding fall
+fall_unfolds m b = after (turn m b) (turn_ends m b)
+  where
+    after : (t : Turn) → TurnEnds m b t → fall_after t (λ n. fall_within (turns m b) n b) ≡ fall_after t (λ n. fall_within (suc (turns n b)) n b)
+    after (goes_on n) less = enough_turns (turns m b) (suc (turns n b)) n b less (omega arith)
+    after (stops n answer) done = refl

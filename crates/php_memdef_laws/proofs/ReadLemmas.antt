@@ -1,5 +1,5 @@
 -- Reading: alike memories give the same, and what is found is what is read.
-use Rattle.std.proofs.Common.{◌≡◌, ℕ, ◌-◌, List, [], ◌∷◌, length, refl, sym, ◌∙◌, ap}
+use Rattle.std.proofs.Common.{◌≡◌, ℕ, List, [], ◌∷◌, length, refl, sym, ◌∙◌, ap}
 use Rattle.std.specs.Prelude.{Option, Some, None, ℤ}
 use Rattle.php_value.specs.declared.key.Key.{Key}
 use Rattle.php_memdef.specs.declared.place.Step.{Step}

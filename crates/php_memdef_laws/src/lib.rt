@@ -2,11 +2,11 @@
 // of all memories.
 #![tactic(auto)]
 
-ghost use Rattle.std.specs.Prelude.{◌≡◌, ◌≢◌, ℕ, [], Some};
+ghost use Rattle.std.specs.Prelude.{◌≡◌, ◌≢◌, ℕ, List, [], Some};
 ghost use Rattle.php_memdef.specs.declared.place.Place.{Place};
 ghost use Rattle.php_memdef.specs.declared.answer.Peek.{Peek};
 ghost use Rattle.php_memdef.specs.declared.answer.Fallen.TheVariants.{Nothing};
-ghost use Rattle.php_memdef.specs.Contents.{Content, Mem, fresh, scope_of};
+ghost use Rattle.php_memdef.specs.Contents.{Content, text, value, Mem, fresh, scope_of};
 ghost use Rattle.php_memdef.specs.Alike.{Alike};
 ghost use Rattle.php_memdef.specs.Sound.{IsClosed, IsFormed, IsSound};
 ghost use Rattle.php_memdef.specs.Rest.{EqualAtRest, IsFresh};
@@ -19,7 +19,10 @@ ghost use Rattle.php_memdef_laws.specs.Shapes.{shape, shape_after};
 ghost use Rattle.php_memdef_laws.specs.Stops.{StopsFor};
 ghost use Rattle.php_memdef.specs.Holders.{vslots};
 ghost use Rattle.php_memdef.specs.Views.{Shows, found, later_entry, is_aliased, is_link, steps_met, end_met, temps_count, cost_of};
-ghost use Rattle.php_memdef.specs.Conditions.{IsBlock, IsObject, IsPlace};
+ghost use Rattle.php_memdef.specs.declared.answer.Wrote.TheVariants.{Done};
+ghost use Rattle.php_memdef.specs.Temporaries.{with_top};
+ghost use Rattle.php_memdef.specs.Writes.{assign};
+ghost use Rattle.php_memdef.specs.Conditions.{IsBlock, IsObject, IsPlace, CanAppend};
 ghost use Rattle.std.specs.Bool.{Decides};
 ghost use Rattle.php_memdef.specs.Deciders.{can, is_object};
 ghost use Rattle.php_memdef.specs.Operations.{Operation, Can, run, effect, cost};
@@ -133,4 +136,16 @@ pub fn releases_stop()
 pub fn releases_end()
     ensures { (m : Mem) (b : ℕ) →
         (releases.fall m b).1 ≡ Nothing → (scope_of (releases.fall m b).0 b).falling ≡ [] }
+{}
+
+/// An append, which is an assignment, is never refused where it may be made.
+pub fn appends_are_done()
+    ensures { (m : Mem) (b : ℕ) (to : Place) (bytes : List ℕ) →
+        CanAppend b to m → (assign (with_top m b (value (text bytes))) b to).1 ≡ Done }
+{}
+
+/// A release is one turn, and where that doesn't stop it, the release of what the turn leaves.
+pub fn releases_go_on()
+    ensures { (m : Mem) (b : ℕ) → releases.fall m b
+        ≡ releases.fall_after (releases.turn m b) (λ n. releases.fall n b) }
 {}

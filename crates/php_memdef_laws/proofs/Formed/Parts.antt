@@ -18,7 +18,7 @@ use Rattle.php_memdef.specs.Contents.{Content, null, truth, int, text, array, ob
 use Rattle.php_memdef.specs.Places.{Spot, stored, standing, nth_item, with_nth_item, content_if, content_at, with_content, with_scope, with_new_store, variable_store, property_store, seen_eq, prop_name_eq}
 use Rattle.php_memdef.specs.Temporaries.{content_of_scalar, with_temps, with_falling, pushed, rest_of, popped, top_of, top, with_top, turned, turn, reserve, fallen, let_fall, enter, leave, push, push_array, push_object, pass, drop_top}
 use Rattle.php_memdef.specs.Writes.{with_variable, with_property, without_variable, without_property}
-use Rattle.php_memdef.specs.Sound.{IsShort, IsSoundContent, AreSoundItems, HasNoVariable, AreVariablesDistinct, HasNoProperty, ArePropertiesDistinct, AreNamesShort, IsSoundScope, IsSoundObject, IsFormed}
+use Rattle.php_memdef.specs.Sound.{IsShort, IsSoundContent, AreSoundItems, AreSoundFalling, HasNoVariable, AreVariablesDistinct, HasNoProperty, ArePropertiesDistinct, AreNamesShort, IsSoundScope, IsSoundObject, IsFormed}
 use Rattle.php_memdef.specs.Conditions.{HasRoom, IsScalarWithin, CanLeave, CanPush, CanPushArray, CanPushObject, CanPass}
 use Rattle.php_memdef_laws.proofs.AppendLemmas.{same_length}
 use Rattle.php_memdef_laws.proofs.NumberedLemmas.{numbered-with_same, numbered-with_other, with_next-numbered, all-with, live-with}
@@ -153,7 +153,12 @@ items_joined [] js h k = k
 items_joined (value c ∷ is) js h k = (h.0, items_joined is js h.1 k)
 items_joined (link s ∷ is) js h k = items_joined is js h k
 
-pub fallen_sound : (i : Item) → IsSoundItem i → AreSoundItems (fallen i)
+pub falling_joined : (is js : List Item) → AreSoundFalling is → AreSoundFalling js → AreSoundFalling (is ++ js)
+falling_joined [] js h k = k
+falling_joined (value c ∷ is) js h k = (h.0, falling_joined is js h.1 k)
+falling_joined (link s ∷ is) js h k = falling_joined is js h k
+
+pub fallen_sound : (i : Item) → IsSoundItem i → AreSoundFalling (fallen i)
 fallen_sound (link s) h = tt
 fallen_sound (value null) h = tt
 fallen_sound (value (truth b)) h = tt
@@ -302,7 +307,7 @@ module _ (m : Mem) (formed : IsFormed m) where
   pub with_temps-formed : (b : ℕ) (is : List Item) → AreSoundItems is → length is ≤ (scope_of m b).room → IsFormed (with_temps m b is)
   with_temps-formed b is h within = let p = scope-sound b in with_scope-formed b (record (scope_of m b) { temps = is }) (record { variables_distinct = p.variables_distinct; temps = h; falling = p.falling; temps_within = within })
 
-  pub with_falling-formed : (b : ℕ) (is : List Item) → AreSoundItems is → IsFormed (with_falling m b is)
+  pub with_falling-formed : (b : ℕ) (is : List Item) → AreSoundFalling is → IsFormed (with_falling m b is)
   with_falling-formed b is h = let p = scope-sound b in with_scope-formed b (record (scope_of m b) { falling = is }) (record { variables_distinct = p.variables_distinct; temps = p.temps; falling = h; temps_within = p.temps_within })
 
   pub with_variables-formed : (b : ℕ) (vs : List Variable) → AreVariablesDistinct vs → IsFormed (with_scope m b (record (scope_of m b) { variables = vs }))
@@ -318,7 +323,7 @@ module _ (m : Mem) (formed : IsFormed m) where
   top-sound b = top_sound (scope_of m b).temps (scope-sound b).temps
 
   pub let_fall-formed : (b : ℕ) (i : Item) → IsSoundItem i → IsFormed (let_fall m b i)
-  let_fall-formed b i h = with_falling-formed b ((scope_of m b).falling ++ fallen i) (items_joined (scope_of m b).falling (fallen i) (scope-sound b).falling (fallen_sound i h))
+  let_fall-formed b i h = with_falling-formed b ((scope_of m b).falling ++ fallen i) (falling_joined (scope_of m b).falling (fallen i) (scope-sound b).falling (fallen_sound i h))
 
 scalar_sound : (v : Scalar) → IsScalarWithin v → IsSoundContent (content_of_scalar v)
 scalar_sound scalar.Null h = tt

@@ -12,18 +12,18 @@ use Rattle.php_memdef.specs.Places.{nth_item, with_object}
 use Rattle.php_memdef.specs.Temporaries.{with_falling, pushed, popped, top_of, fallen}
 use Rattle.php_memdef.specs.Releases.{entry_links, property_links, Turn, goes_on, stops, link_dropped, object_removed, object_released, handle_dropped, is_held, is_object_held, item_released, first_released, turn, fall_after, fall_within, turns, fall}
 use Rattle.php_memdef.specs.Objects.{OBJECT_LIMIT, new_object, with_new_object, object_made, make_object, clone_made, clone_of_top, clone_object, finish, spare, attach}
-use Rattle.php_memdef.specs.Sound.{AreSoundItems, HasNoProperty, ArePropertiesDistinct, AreNamesShort, IsSoundObject, IsFormed}
+use Rattle.php_memdef.specs.Sound.{AreSoundFalling, HasNoProperty, ArePropertiesDistinct, AreNamesShort, IsSoundObject, IsFormed}
 use Rattle.php_memdef.specs.Conditions.{IsObject, HasRoom, CanMakeObject, CanClone, CanAttach}
 use Rattle.php_memdef_laws.proofs.NumberedLemmas.{numbered-with_same, numbered-with_other, all-with}
-use Rattle.php_memdef_laws.proofs.Formed.Parts.{some_same, scope-sound, object-sound, content-sound, with_stores-formed, with_store-formed, with_falling-formed, pushed-formed, popped-formed, let_fall-formed, items_joined, fallen_sound}
+use Rattle.php_memdef_laws.proofs.Formed.Parts.{some_same, scope-sound, object-sound, content-sound, with_stores-formed, with_store-formed, with_falling-formed, pushed-formed, popped-formed, let_fall-formed, falling_joined, fallen_sound}
 use Rattle.php_memdef_laws.proofs.Formed.Copies.{clone-sound, room_behind}
 use Rattle.php_memdef_laws.proofs.Formed.Writes.{object_changed-formed, with_object-formed}
 
-entry_links_sound : (es : List (Entry ℕ)) → AreSoundItems (entry_links es)
+entry_links_sound : (es : List (Entry ℕ)) → AreSoundFalling (entry_links es)
 entry_links_sound [] = tt
 entry_links_sound (e ∷ es) = entry_links_sound es
 
-property_links_sound : (ps : List Property) → AreSoundItems (property_links ps)
+property_links_sound : (ps : List Property) → AreSoundFalling (property_links ps)
 property_links_sound [] = tt
 property_links_sound (p ∷ ps) = property_links_sound ps
 
@@ -50,12 +50,12 @@ due_there m h e = by_cases (numbered m.objects h) e
     by_cases None e = absurd (false≢true e)
     by_cases (Some x) e = refl
 
-module _ (m : Mem) (formed : IsFormed m) (b : ℕ) (rest : List Item) (sound : AreSoundItems rest) where
+module _ (m : Mem) (formed : IsFormed m) (b : ℕ) (rest : List Item) (sound : AreSoundFalling rest) where
   link_dropped-formed : (held : Bool) (s : ℕ) → IsFormed (link_dropped held m b rest s)
   link_dropped-formed true s = with_falling-formed m formed b rest sound
   link_dropped-formed false s =
       with_falling-formed (record m { stores = with_numbered m.stores s None }) (with_store-formed m formed s None (λ c e. absurd (nothing c e))) b (fallen (value (content_of m s)) ++ rest)
-      (items_joined (fallen (value (content_of m s))) rest (fallen_sound (value (content_of m s)) (content-sound m formed s)) sound)
+      (falling_joined (fallen (value (content_of m s))) rest (fallen_sound (value (content_of m s)) (content-sound m formed s)) sound)
     where
       nothing : (c : Content) → None ≡ Some c → ⊥
       nothing c e = cc
@@ -63,7 +63,7 @@ module _ (m : Mem) (formed : IsFormed m) (b : ℕ) (rest : List Item) (sound : A
   gone-formed : (h : ℕ) → IsFormed (with_falling (record m { objects = with_numbered m.objects h None }) b (property_links (object_of m h).properties ++ rest))
   gone-formed h =
       with_falling-formed (record m { objects = with_numbered m.objects h None }) (object_changed-formed m formed h None (λ k e. absurd (no_frame k e)) (λ x e. absurd (nothing x e)) (λ e. absurd (false≢true e))) b (property_links (object_of m h).properties ++ rest)
-      (items_joined (property_links (object_of m h).properties) rest (property_links_sound (object_of m h).properties) sound)
+      (falling_joined (property_links (object_of m h).properties) rest (property_links_sound (object_of m h).properties) sound)
     where
       no_frame : (k : ℕ) → None ≡ Some k → ⊥
       no_frame k e = cc
@@ -96,14 +96,14 @@ module _ (m : Mem) (formed : IsFormed m) (b : ℕ) (rest : List Item) (sound : A
   item_released-formed (value (truth x)) = with_falling-formed m formed b rest sound
   item_released-formed (value (int i)) = with_falling-formed m formed b rest sound
   item_released-formed (value (text bytes)) = with_falling-formed m formed b rest sound
-  item_released-formed (value (array t)) = with_falling-formed m formed b (entry_links t.entries ++ rest) (items_joined (entry_links t.entries) rest (entry_links_sound t.entries) sound)
+  item_released-formed (value (array t)) = with_falling-formed m formed b (entry_links t.entries ++ rest) (falling_joined (entry_links t.entries) rest (entry_links_sound t.entries) sound)
   item_released-formed (value (object h)) = handle_dropped-formed h (is_object_held (with_falling m b rest) h)
 
-rest_of_sound : (i : Item) (rest : List Item) → AreSoundItems (i ∷ rest) → AreSoundItems rest
+rest_of_sound : (i : Item) (rest : List Item) → AreSoundFalling (i ∷ rest) → AreSoundFalling rest
 rest_of_sound (value c) rest h = h.1
 rest_of_sound (link s) rest h = h
 
-pub first_released-formed : (m : Mem) → IsFormed m → (b : ℕ) (is : List Item) → AreSoundItems is → TurnFormed (first_released is m b)
+pub first_released-formed : (m : Mem) → IsFormed m → (b : ℕ) (is : List Item) → AreSoundFalling is → TurnFormed (first_released is m b)
 first_released-formed m formed b [] h = formed
 first_released-formed m formed b (i ∷ rest) h = item_released-formed m formed b rest (rest_of_sound i rest h) i
 

@@ -11,7 +11,7 @@ use Rattle.php_memdef.specs.Contents.{null, truth, int, text, array, object, Ite
 use Rattle.php_memdef.specs.Copies.{copied, copied_properties, copier_of}
 use Rattle.php_memdef.specs.Places.{Spot, nth_item, content_at, find_place}
 use Rattle.php_memdef.specs.Temporaries.{content_of_scalar, with_falling, pushed, popped, top, with_top, turned, fallen, enter, leave, push, push_array, push_object, pass, turn, reserve, drop_top, copy_of_spot, copy, settled, settle}
-use Rattle.php_memdef.specs.Writes.{assign, text_found, text_of_item, append}
+use Rattle.php_memdef.specs.Writes.{text_found, text_of_item, append}
 use Rattle.php_memdef.specs.Releases.{entry_links, property_links, Turn, goes_on, stops, link_dropped, object_removed, object_released, handle_dropped, is_held, is_object_held, item_released, first_released, turn as turn_of_release, fall_after, fall_within, turns, fall}
 use Rattle.php_memdef.specs.Objects.{OBJECT_LIMIT, with_new_object, new_object, object_made, make_object, with_clone, clone_made, clone_of_top, clone_object, finish, spare, attach}
 use Rattle.php_memdef.specs.Views.{found}

@@ -4,7 +4,7 @@ use Rattle.std.specs.Prelude.{true, false, Option, Some, None, is_some, unwrap_o
 use Rattle.std.proofs.lemmas.Bool.Decides.{eqb_tells}
 use Rattle.php_entries.specs.Listing.{Listing}
 use Rattle.php_memdef.specs.Numbered.{numbered, with_numbered}
-use Rattle.php_memdef.specs.Contents.{Content, array, Item, value, link, Variable, Scope, Mem, no_scope, scope_of}
+use Rattle.php_memdef.specs.Contents.{Content, Item, value, link, Variable, Scope, Mem, no_scope, scope_of}
 use Rattle.php_memdef.specs.Places.{Spot, stored, standing, nth_item, with_nth_item, content_if, content_at, with_content, with_scope, elements_of}
 use Rattle.php_memdef.specs.Temporaries.{with_temps, with_falling, pushed, rest_of, popped, top_of, turned, let_fall}
 use Rattle.php_memdef.specs.Conditions.{IsBlock}
