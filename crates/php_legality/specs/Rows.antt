@@ -319,15 +319,12 @@ clash_one_way _ _ = false
 abbrev pub clash : ModifierWord → ModifierWord → Bool
 clash a b = is_visibility a && is_visibility b || clash_one_way a b || clash_one_way b a
 
--- each two words before a class clash
-abbrev class_words_clash : ClassModifier → ClassModifier → Bool
-class_words_clash a b = true
-
 abbrev clashing : {S : Type 0} → List (Modifier S) → List S
 clashing modifiers = map (λ m. m.note) (repeated (λ later before. clash before.word later.word) modifiers)
 
+-- A class has one word at most: each two of them are the same, or `abstract` with `final`.
 abbrev clashing_words : {S : Type 0} → List (ClassWord S) → List S
-clashing_words words = map (λ m. m.note) (repeated (λ later before. class_words_clash before.word later.word) words)
+clashing_words words = map (λ m. m.note) (drop 1 words)
 
 abbrev modifiers_of : {S : Type 0} → Member S → List (Modifier S)
 modifiers_of (class_constants modifiers items) = elements modifiers
