@@ -1,4 +1,5 @@
 pub mod Lists
+pub mod First
 pub mod Places
 pub mod Constants
 pub mod Expressions

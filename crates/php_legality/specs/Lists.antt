@@ -1,5 +1,5 @@
 -- Words on sequences and lists of names.
-use Rattle.std.specs.Prelude.{ℕ, Bool, false, ◌||◌, cond, Option, Some, None, List, [], ◌∷◌, ◌++◌}
+use Rattle.std.specs.Prelude.{◌≡◌, ◌⊎◌, ℕ, Bool, false, ◌||◌, cond, Option, Some, None, List, [], ◌∷◌, ◌++◌}
 use Rattle.php_ast.specs.statement.Tree.{Sequence, empty, then_also}
 
 -- the elements of a sequence, the first one first
@@ -35,3 +35,8 @@ different_behind same before (x ∷ xs) = cond (is_any (same x) before) [] (x �
 
 abbrev pub different : {A : Type 0} → (A → A → Bool) → List A → List A
 different same xs = different_behind same [] xs
+
+-- The list has the element.
+abbrev pub Has : {A : Type 0} → List A → A → Type 0
+Has [] x = ⊥
+Has (y ∷ ys) x = (y ≡ x) ⊎ Has ys x
