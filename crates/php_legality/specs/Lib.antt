@@ -1,0 +1,11 @@
+pub mod Lists
+pub mod First
+pub mod Places
+pub mod Constants
+pub mod Expressions
+pub mod Statements
+pub mod Declarations
+pub mod Taken
+pub mod NameTokens
+pub mod Rows
+pub mod Legality

@@ -1,0 +1,8 @@
+// What makes a script legal: the kinds of its faults, where each stands, and which one is the first.
+#![tactic(auto)]
+
+mod fault;
+mod kind;
+
+pub use fault::{Fault, sooner};
+pub use kind::Kind;
