@@ -19,8 +19,8 @@ MayLack form (Some body) = Unit {0}
 
 -- with the symbol that names it
 abbrev pub spell_routine : {N : Type 0} → Symbol → Routine N → List Symbol → List Symbol
-spell_routine name f w =
-    symbol_if f.is_reference (punct mark.Ampersand) (name ∷ spell_signature f.signature (spell_method_body f.body w))
+spell_routine called f w =
+    symbol_if f.is_reference (punct mark.Ampersand) (called ∷ spell_signature f.signature (spell_method_body f.body w))
 
 -- The symbols are those of a proper function behind its word.
 pub record SpellsRoutine {N : Type 0} (form : FunctionForm N) (f : Routine N) (w : List Symbol) : Type 0 where
