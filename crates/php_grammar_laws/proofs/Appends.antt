@@ -131,24 +131,32 @@ mutual
   statement_appends (if_lists note test body parts) =
       record { at = λ v w. (both (head_appends word.If test) (before (punct mark.Colon) (both (statements_appends body) (behind (punct mark.Semicolon) (behind (keyword word.EndIf) (elseif_lists_append parts)))))).at v w }
   statement_appends (if_else_lists note test body parts last) =
-      record { at = λ v w. (both (head_appends word.If test) (before (punct mark.Colon) (both (statements_appends body) (both (elseif_lists_append parts)
-      (before (keyword word.Else) (before (punct mark.Colon) (behind (punct mark.Semicolon) (behind (keyword word.EndIf) (statements_appends last))))))))).at v w }
+      record {
+        at = λ v w. (both (head_appends word.If test) (before (punct mark.Colon) (both (statements_appends body) (both (elseif_lists_append parts)
+            (before (keyword word.Else) (before (punct mark.Colon) (behind (punct mark.Semicolon) (behind (keyword word.EndIf) (statements_appends last))))))))).at v w;
+      }
   statement_appends (while note test body) = record { at = λ v w. (both (head_appends word.While test) (body_appends word.EndWhile body)).at v w }
   statement_appends (do_while note body test) =
       record { at = λ v w. (before (keyword word.Do) (both (statement_appends body) (behind (punct mark.Semicolon) (head_appends word.While test)))).at v w }
   statement_appends (for note a b c body) =
-      record { at = λ v w. (before (keyword word.For) (before (punct mark.LeftParen) (both (items_appends a) (before (punct mark.Semicolon) (both (items_appends b) (before (punct mark.Semicolon)
-      (both (items_appends c) (before (punct mark.RightParen) (body_appends word.EndFor body))))))))).at v w }
+      record {
+        at = λ v w. (before (keyword word.For) (before (punct mark.LeftParen) (both (items_appends a) (before (punct mark.Semicolon) (both (items_appends b) (before (punct mark.Semicolon)
+            (both (items_appends c) (before (punct mark.RightParen) (body_appends word.EndFor body))))))))).at v w;
+      }
   statement_appends (foreach note walked key value body) =
-      record { at = λ v w. (before (keyword word.Foreach) (before (punct mark.LeftParen) (both (expression_appends walked) (before (keyword word.As) (both (key_appends key) (both (target_appends value)
-      (before (punct mark.RightParen) (body_appends word.EndForeach body)))))))).at v w }
+      record {
+        at = λ v w. (before (keyword word.Foreach) (before (punct mark.LeftParen) (both (expression_appends walked) (before (keyword word.As) (both (key_appends key) (both (target_appends value)
+            (before (punct mark.RightParen) (body_appends word.EndForeach body)))))))).at v w;
+      }
   statement_appends (switch note e form cases) =
       record { at = λ v w. (both (head_appends word.Switch e) (before (cases_opening form) (both (cases_append cases) (closing_appends form)))).at v w }
   statement_appends (try_catch note body catches) =
       record { at = λ v w. (before (keyword word.Try) (before (punct mark.LeftBrace) (both (statements_appends body) (before (punct mark.RightBrace) (catches_append catches))))).at v w }
   statement_appends (try_finally note body catches last) =
-      record { at = λ v w. (before (keyword word.Try) (before (punct mark.LeftBrace) (both (statements_appends body) (before (punct mark.RightBrace) (both (catches_append catches)
-      (before (keyword word.Finally) (before (punct mark.LeftBrace) (behind (punct mark.RightBrace) (statements_appends last))))))))).at v w }
+      record {
+        at = λ v w. (before (keyword word.Try) (before (punct mark.LeftBrace) (both (statements_appends body) (before (punct mark.RightBrace) (both (catches_append catches)
+            (before (keyword word.Finally) (before (punct mark.LeftBrace) (behind (punct mark.RightBrace) (statements_appends last))))))))).at v w;
+      }
   statement_appends (declares note n value) = record { at = λ v w. refl }
 
   pub statements_appends : {S : Type 0} (ss : Statements S) → Appends (spell_statements ss)
@@ -175,5 +183,7 @@ mutual
   catches_append : {S : Type 0} (catches : Catches S) → Appends (spell_catches catches)
   catches_append no_catch = record { at = λ v w. refl }
   catches_append (and_catch catches classes n ss) =
-      record { at = λ v w. (both (catches_append catches) (before (keyword word.Catch) (before (punct mark.LeftParen) (both (separated_appends (punct mark.Bar) spell_name name_appends classes)
-      (both (dollar_appends n) (before (punct mark.RightParen) (before (punct mark.LeftBrace) (behind (punct mark.RightBrace) (statements_appends ss))))))))).at v w }
+      record {
+        at = λ v w. (both (catches_append catches) (before (keyword word.Catch) (before (punct mark.LeftParen) (both (separated_appends (punct mark.Bar) spell_name name_appends classes)
+            (both (dollar_appends n) (before (punct mark.RightParen) (before (punct mark.LeftBrace) (behind (punct mark.RightBrace) (statements_appends ss))))))))).at v w;
+      }

@@ -37,9 +37,10 @@ nothing_read = record { sound = tt; appends = nothing }
 entered_by : (place : ExpressionPlace) (o : Around) (t : Symbol) (f : Front) (x : Option State) → SoundAround o → SoundPlace place → Same (λ w. around_front o (place_front place w)) f
     → LeadsOn (expects []) t x → Leads Reached (with_one f t) (if_some x (λ m. Some (in_expression place m o)))
 entered_by place o t f None a p same leads = tt
-entered_by place o t f (Some m) a p same leads =
-    ((a, p, record { sound = leads.0; appends = record { at = λ v w. sym (leads.1 (v ++ w)) ∙ ap (λ u. u ++ w) (leads.1 v) } }),
-    λ w. ap (λ u. around_front o (place_front place u)) (sym (leads.1 w)) ∙ same (t ∷ w))
+entered_by place o t f (Some m) a p same leads = (
+  (a, p, record { sound = leads.0; appends = record { at = λ v w. sym (leads.1 (v ++ w)) ∙ ap (λ u. u ++ w) (leads.1 v) } }),
+  λ w. ap (λ u. around_front o (place_front place u)) (sym (leads.1 w)) ∙ same (t ∷ w),
+)
 
 pub entered_leads : (place : ExpressionPlace) (o : Around) (t : Symbol) (f : Front) → SoundAround o → SoundPlace place → Same (λ w. around_front o (place_front place w)) f
     → Leads Reached (with_one f t) (entered place o t)
@@ -243,9 +244,10 @@ form_leads by_elseif (if_open test ∷ o) a t f is seen h p last same =
     ((h.1, (h.0, p, tt, tt, last refl), nothing_read), λ w. next (λ v. around_front (if_open test ∷ o) (spell_statement a v)) f t _ is same (punct mark.LeftParen ∷ w))
 form_leads by_else (elseif_open test body parts e ∷ o) a t f is seen h p last same =
     (((h.0.0.0, h.0.0.1, (h.0.0.2, h.0.1, p), (h.0.0.3, h.0.0.4), last refl), h.1), λ w. next (λ v. around_front (elseif_open test body parts e ∷ o) (spell_statement a v)) f t _ is same w)
-form_leads by_elseif (elseif_open test body parts e ∷ o) a t f is seen h p last same =
-    ((h.1, (h.0.0.0, h.0.0.1, (h.0.0.2, h.0.1, p), (h.0.0.3, h.0.0.4), last refl), nothing_read),
-    λ w. next (λ v. around_front (elseif_open test body parts e ∷ o) (spell_statement a v)) f t _ is same (punct mark.LeftParen ∷ w))
+form_leads by_elseif (elseif_open test body parts e ∷ o) a t f is seen h p last same = (
+  (h.1, (h.0.0.0, h.0.0.1, (h.0.0.2, h.0.1, p), (h.0.0.3, h.0.0.4), last refl), nothing_read),
+  λ w. next (λ v. around_front (elseif_open test body parts e ∷ o) (spell_statement a v)) f t _ is same (punct mark.LeftParen ∷ w),
+)
 form_leads by_while (do_open ∷ o) a t f is seen h p last same =
     ((h.1, p, nothing_read), λ w. next (λ v. around_front (do_open ∷ o) (spell_statement a v)) f t _ is same (punct mark.LeftParen ∷ w))
 form_leads _ [] a t f is seen h p last same = tt
