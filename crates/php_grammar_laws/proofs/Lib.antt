@@ -1,0 +1,6 @@
+mod Stops
+mod Appends
+mod Wholes
+mod Begins
+mod Says
+mod statement

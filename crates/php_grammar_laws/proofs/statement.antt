@@ -1,0 +1,4 @@
+pub mod Sound
+pub mod Steps
+pub mod Places
+pub mod Laws

@@ -1,0 +1,5 @@
+pub mod Statements
+pub mod Signatures
+pub mod Functions
+pub mod Members
+pub mod Scripts
