@@ -1,6 +1,11 @@
 // Laws of statements and declarations. Each is the contract of a function that does nothing: it says what holds of the
 // definitions in specs/, for every tree and every list of symbols.
 
+ghost use Rattle.php_grammar_laws.specs.Functions.{FunctionReadingBegins, FunctionStopsExactly};
+ghost use Rattle.php_grammar_laws.specs.Functions.{MethodReadingBegins, MethodStopsExactly};
+ghost use Rattle.php_grammar_laws.specs.Functions.{OneFunction, OneMethod};
+ghost use Rattle.php_grammar_laws.specs.Functions.{ReadsFunctionsBack, ReadsMethodsBack};
+ghost use Rattle.php_grammar_laws.specs.Functions.{UnfinishedFunction, UnfinishedMethod};
 ghost use Rattle.php_grammar_laws.specs.Signatures.{SignatureReadingBegins};
 ghost use Rattle.php_grammar_laws.specs.Signatures.{SignatureStopsExactly, UnfinishedSignature};
 ghost use Rattle.php_grammar_laws.specs.Statements.{StatementReadingBegins};
@@ -34,4 +39,54 @@ pub fn unfinished_signature()
 /// Where a reading of a signature stops, the symbols begin no signature with one more.
 pub fn signature_stops_exactly()
     ensures { SignatureStopsExactly }
+{}
+
+/// What a reading of a function has read behind the word `function` begins the spelling of a proper function.
+pub fn function_reading_begins()
+    ensures { FunctionReadingBegins }
+{}
+
+/// The spelling of a proper function is read back to that function, in front of anything.
+pub fn reads_functions_back()
+    ensures { ReadsFunctionsBack }
+{}
+
+/// A list of symbols spells at most one function.
+pub fn one_function()
+    ensures { OneFunction }
+{}
+
+/// Where a reading of a function halts and something is missing, what was read spells no function.
+pub fn unfinished_function()
+    ensures { UnfinishedFunction }
+{}
+
+/// Where a reading of a function stops, the symbols begin no function with one more.
+pub fn function_stops_exactly()
+    ensures { FunctionStopsExactly }
+{}
+
+/// What a reading of a method has read behind the word `function` begins the spelling of a proper method.
+pub fn method_reading_begins()
+    ensures { MethodReadingBegins }
+{}
+
+/// The spelling of a proper method is read back to that method, in front of anything.
+pub fn reads_methods_back()
+    ensures { ReadsMethodsBack }
+{}
+
+/// A list of symbols spells at most one method.
+pub fn one_method()
+    ensures { OneMethod }
+{}
+
+/// Where a reading of a method halts and something is missing, what was read spells no method.
+pub fn unfinished_method()
+    ensures { UnfinishedMethod }
+{}
+
+/// Where a reading of a method stops, the symbols begin no method with one more.
+pub fn method_stops_exactly()
+    ensures { MethodStopsExactly }
 {}
