@@ -6,6 +6,8 @@ ghost use Rattle.php_grammar_laws.specs.Functions.{MethodReadingBegins, MethodSt
 ghost use Rattle.php_grammar_laws.specs.Functions.{OneFunction, OneMethod};
 ghost use Rattle.php_grammar_laws.specs.Functions.{ReadsFunctionsBack, ReadsMethodsBack};
 ghost use Rattle.php_grammar_laws.specs.Functions.{UnfinishedFunction, UnfinishedMethod};
+ghost use Rattle.php_grammar_laws.specs.Members.{MemberReadingBegins, MemberStopsExactly};
+ghost use Rattle.php_grammar_laws.specs.Members.{OneMember, UnfinishedMember};
 ghost use Rattle.php_grammar_laws.specs.Signatures.{SignatureReadingBegins};
 ghost use Rattle.php_grammar_laws.specs.Signatures.{SignatureStopsExactly, UnfinishedSignature};
 ghost use Rattle.php_grammar_laws.specs.Statements.{StatementReadingBegins};
@@ -89,4 +91,24 @@ pub fn unfinished_method()
 /// Where a reading of a method stops, the symbols begin no method with one more.
 pub fn method_stops_exactly()
     ensures { MethodStopsExactly }
+{}
+
+/// What a reading of a member has read begins the spelling of a proper member.
+pub fn member_reading_begins()
+    ensures { MemberReadingBegins }
+{}
+
+/// A list of symbols spells at most one member.
+pub fn one_member()
+    ensures { OneMember }
+{}
+
+/// Where a reading of a member halts and something is missing, what was read spells no member.
+pub fn unfinished_member()
+    ensures { UnfinishedMember }
+{}
+
+/// Where a reading of a member stops, the symbols begin no member with one more.
+pub fn member_stops_exactly()
+    ensures { MemberStopsExactly }
 {}

@@ -300,7 +300,7 @@ one form names a b w p q = ap (λ r. r.tree) (sym (reads_back form names a w [] 
 lacks : {N : Type 0} (form : FunctionForm N) → Names form → UnfinishedRoutine form
 lacks form names w v x h missing = unfinished_by (read_routine form (w ++ v)) x v (reads_back form names x w v h) missing
 
-behind_nothing : (w : List Symbol) → w ++ [] ≡ w
+pub behind_nothing : (w : List Symbol) → w ++ [] ≡ w
 behind_nothing [] = refl
 behind_nothing (t ∷ w) = ap (λ u. t ∷ u) (behind_nothing w)
 
