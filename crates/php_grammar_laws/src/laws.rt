@@ -8,6 +8,8 @@ ghost use Rattle.php_grammar_laws.specs.Functions.{ReadsFunctionsBack, ReadsMeth
 ghost use Rattle.php_grammar_laws.specs.Functions.{UnfinishedFunction, UnfinishedMethod};
 ghost use Rattle.php_grammar_laws.specs.Members.{MemberReadingBegins, MemberStopsExactly};
 ghost use Rattle.php_grammar_laws.specs.Members.{OneMember, UnfinishedMember};
+ghost use Rattle.php_grammar_laws.specs.Scripts.{ScriptReadingBegins, ScriptStopsExactly};
+ghost use Rattle.php_grammar_laws.specs.Scripts.{UnfinishedScript};
 ghost use Rattle.php_grammar_laws.specs.Signatures.{SignatureReadingBegins};
 ghost use Rattle.php_grammar_laws.specs.Signatures.{SignatureStopsExactly, UnfinishedSignature};
 ghost use Rattle.php_grammar_laws.specs.Statements.{StatementReadingBegins};
@@ -111,4 +113,19 @@ pub fn unfinished_member()
 /// Where a reading of a member stops, the symbols begin no member with one more.
 pub fn member_stops_exactly()
     ensures { MemberStopsExactly }
+{}
+
+/// What a reading of a script has read begins the spelling of a proper script.
+pub fn script_reading_begins()
+    ensures { ScriptReadingBegins }
+{}
+
+/// Where a reading of a script lacks something at the end of all symbols, these spell no script.
+pub fn unfinished_script()
+    ensures { UnfinishedScript }
+{}
+
+/// Where a reading of a script stops, the symbols begin no script with one more.
+pub fn script_stops_exactly()
+    ensures { ScriptStopsExactly }
 {}
