@@ -4,3 +4,4 @@ mod Wholes
 mod Begins
 mod Says
 mod statement
+mod declaration

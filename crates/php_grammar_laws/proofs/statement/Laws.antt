@@ -180,7 +180,7 @@ loop_spells (while_loop test) w = refl
 loop_spells (for_loop b c d) w = refl
 loop_spells (foreach_loop e key value) w = refl
 
-halts_spelled : (m : StatementState) (f : Front) (w : List Symbol) → Reached m f → SpellsStatement (halt_statement m w).tree (f (halt_statement m w).missing)
+pub halts_spelled : (m : StatementState) (f : Front) (w : List Symbol) → Reached m f → SpellsStatement (halt_statement m w).tree (f (halt_statement m w).missing)
 halts_spelled (due_statement o) f w h = stops o any_statement (λ v. v) _ f h.0 tt refl h.1
 halts_spelled (done a o) f w h = stops o a (spell_statement a) _ f h.0.0 h.0.1 refl h.1
 halts_spelled (due xs m) f w h = halts_spelled m (λ v. f (fixed_symbols xs v)) w h

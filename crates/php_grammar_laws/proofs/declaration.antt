@@ -1,0 +1,4 @@
+pub mod Signatures
+pub mod Functions
+pub mod Members
+pub mod Scripts

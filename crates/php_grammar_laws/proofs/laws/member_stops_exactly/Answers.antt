@@ -1,0 +1,5 @@
+use Rattle.php_grammar_laws.proofs.declaration.Members.{stops_exactly}
+use Rattle.php_grammar_laws.proofs.laws.member_stops_exactly.Goals as goal
+
+pub returns : goal.returns
+returns c = stops_exactly
