@@ -1,0 +1,14 @@
+// What a memory that copies at once is made of: counted stores and objects, blocks, and what falls.
+#![tactic(auto)]
+
+mod block;
+mod content;
+mod falling;
+mod load;
+mod stores;
+
+pub use block::{Block, Variable};
+pub use content::{Content, Item};
+pub use falling::First;
+pub use load::{Elements, Load, Property};
+pub use stores::{Store, drop_link};
