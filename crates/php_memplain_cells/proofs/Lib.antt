@@ -1,3 +1,4 @@
 pub mod SlotLemmas
 pub mod LoadLemmas
 pub mod FirstLemmas
+pub mod ObjectLemmas

@@ -1,5 +1,5 @@
 -- The slots of a slab, as a finite map from numbers.
-use Rattle.std.proofs.Common.{◌≡◌, ℕ, zero, suc, List, [], ◌∷◌, map, refl, sym, ◌∙◌, ap}
+use Rattle.std.proofs.Common.{◌≡◌, ◌≢◌, ◌<◌, ℕ, zero, suc, List, [], ◌∷◌, length, map, arith, refl, sym, ◌∙◌, ap}
 use Rattle.std.specs.Prelude.{Option, Some, None, option_map, slice_index_or, slice_set}
 use Rattle.php_memdef.specs.Numbered.{Numbered, numbered, with_numbered}
 
@@ -36,3 +36,32 @@ with_twice [] zero x y = refl
 with_twice [] (suc k) x y = ap (λ ys. None ∷ ys) (with_twice [] k x y)
 with_twice (z ∷ xs) zero x y = refl
 with_twice (z ∷ xs) (suc k) x y = ap (λ ys. z ∷ ys) (with_twice xs k x y)
+
+module _ {X : Type 0} where
+  pub at_same : (xs : List (Option X)) (k : ℕ) (x : X) (y : Option X) → slice_index_or xs k None ≡ Some x → slice_index_or (slice_set xs k y) k None ≡ y
+  at_same [] k x y e = absurd (no_some e)
+  at_same (z ∷ xs) zero x y e = refl
+  at_same (z ∷ xs) (suc k) x y e = at_same xs k x y e
+
+  pub at_other : (xs : List (Option X)) (k j : ℕ) (y : Option X) → j ≢ k → slice_index_or (slice_set xs k y) j None ≡ slice_index_or xs j None
+  at_other [] k j y ne = refl
+  at_other (z ∷ xs) zero zero y ne = absurd (ne refl)
+  at_other (z ∷ xs) zero (suc j) y ne = refl
+  at_other (z ∷ xs) (suc k) zero y ne = refl
+  at_other (z ∷ xs) (suc k) (suc j) y ne = at_other xs k j y (λ e. ne (ap suc e))
+
+  pub set_twice : (xs : List (Option X)) (k : ℕ) (x y : Option X) → slice_set (slice_set xs k x) k y ≡ slice_set xs k y
+  set_twice [] k x y = refl
+  set_twice (z ∷ xs) zero x y = refl
+  set_twice (z ∷ xs) (suc k) x y = ap (λ ys. z ∷ ys) (set_twice xs k x y)
+
+  -- what is there is there whatever stands for nothing
+  pub any_default : (xs : List (Option X)) (k : ℕ) (x : X) (d : Option X) → slice_index_or xs k None ≡ Some x → slice_index_or xs k d ≡ Some x
+  any_default [] k x d e = absurd (no_some e)
+  any_default (z ∷ xs) zero x d e = e
+  any_default (z ∷ xs) (suc k) x d e = any_default xs k x d e
+
+  pub within : (xs : List (Option X)) (k : ℕ) (x : X) → slice_index_or xs k None ≡ Some x → k < length xs
+  within [] k x e = absurd (no_some e)
+  within (z ∷ xs) zero x e = omega arith
+  within (z ∷ xs) (suc k) x e = omega (arith, within xs k x e)

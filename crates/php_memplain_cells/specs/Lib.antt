@@ -1,3 +1,4 @@
 pub mod Seen
 pub mod Counts
 pub mod Falls
+pub mod Dropped

@@ -1,5 +1,6 @@
 -- What a contract sees of stores, blocks and objects: the parts of a memory of the model.
-use Rattle.std.specs.Prelude.{ℕ, zero, suc, ◌+◌, Bool, true, false, nat_lt, if◌then◌else◌, List, [], ◌∷◌, ◌++◌, map, reverse, drop, length, Option, Some, None, option_map}
+use Rattle.std.specs.Prelude.{ℕ, zero, suc, ◌+◌, Bool, true, false, nat_lt, if◌then◌else◌, List, [], ◌∷◌, ◌++◌, map, reverse, drop, length, Option, Some, None, option_map, Box}
+use Rattle.std.specs.declared.alloc.Global.{Global}
 use Rattle.slab.specs.Slab.{Slab}
 use Rattle.php_entries.specs.Listing.{Entry}
 use Rattle.php_memdef.specs.Numbered.{Numbered}
@@ -14,6 +15,7 @@ use Rattle.php_memplain_cells.specs.declared.load.Elements.{Elements}
 use Rattle.php_memplain_cells.specs.declared.load.Load.{Load}
 use Rattle.php_memplain_cells.specs.declared.load.Load.TheVariants.{Whole, Elements as Begun, Properties}
 use Rattle.php_memplain_cells.specs.declared.stores.Store.{Store}
+use Rattle.php_memplain_cells.specs.declared.objects.Object.{Object as Kept}
 use Rattle.php_memplain_cells.specs.declared.block.Variable.{Variable}
 use Rattle.php_memplain_cells.specs.declared.block.Block.{Block}
 
@@ -77,3 +79,13 @@ scope_seen f = record {
   room = f.room;
   falling = block_falling f;
 }
+
+abbrev pub object_seen : Kept → model.Object
+object_seen o = record { class = o.class; properties = map property_seen o.properties.items; finishing = o.finishing; spent = o.spent; frame = o.frame }
+
+abbrev pub box_seen : Box Kept Global → model.Object
+box_seen o = object_seen o.value
+
+-- the first object has the number 1
+abbrev pub objects_seen : List (Option (Box Kept Global)) → Numbered model.Object
+objects_seen os = None ∷ map (option_map box_seen) os

@@ -5,10 +5,12 @@ mod block;
 mod content;
 mod falling;
 mod load;
+mod objects;
 mod stores;
 
 pub use block::{Block, Variable};
 pub use content::{Content, Item};
 pub use falling::First;
 pub use load::{Elements, Load, Property};
+pub use objects::{Dropped, Object, drop_handle};
 pub use stores::{Store, drop_link};
