@@ -1,6 +1,8 @@
 // What falls next.
-ghost use Rattle.std.specs.Prelude.{◌≡◌, [], None};
-ghost use Rattle.php_memplain_cells.specs.Seen.{scope_seen, block_falling, loads_items};
+ghost use Rattle.std.specs.Prelude.{◌≡◌, ◌++◌, [], None};
+ghost use Rattle.php_memdef.specs.Contents.{value};
+ghost use Rattle.php_memdef.specs.Temporaries.{fallen};
+ghost use Rattle.php_memplain_cells.specs.Seen.{content_seen, scope_seen, block_falling, loads_items};
 ghost use Rattle.php_memplain_cells.specs.Falls.{FirstIs};
 
 use crate::block::Block;
@@ -49,6 +51,7 @@ impl Block {
     pub fn next_fallen(&mut self) -> First
         ensures falling { scope_seen self.new ≡ record (scope_seen self.old) { falling = block_falling self.new } }
         ensures first { FirstIs result (block_falling self.old) (block_falling self.new) }
+        ensures handle { self.new.handle ≡ None }
     {
         if let Some(number) = self.handle.take() {
             return First::Handle(number);
@@ -65,6 +68,7 @@ impl Block {
         requires loads { loads_items self.old.loads ≡ [] }
         ensures falling { scope_seen self.new ≡ record (scope_seen self.old) { falling = block_falling self.new } }
         ensures first { FirstIs result (block_falling self.old) (block_falling self.new) }
+        ensures handle { self.new.handle ≡ None }
     {
         match self.waiting.pop_front() {
             None => First::Nothing,
@@ -75,6 +79,18 @@ impl Block {
                 First::Passed
             }
             Some(Item::Value(_)) => First::Passed,
+        }
+    }
+
+    /// Lets a content fall in front of all else.
+    pub fn fall_first(&mut self, content: Content)
+        requires { self.old.handle ≡ None }
+        ensures { scope_seen self.new ≡ record (scope_seen self.old) { falling = fallen (value (content_seen content)) ++ block_falling self.old } }
+    {
+        match content {
+            Content::Array(entries, link) => self.loads.push(Load::Whole(entries), link),
+            Content::Object(number) => self.handle = Some(number),
+            Content::Null | Content::Bool(_) | Content::Int(_) | Content::Str(_) => {}
         }
     }
 }

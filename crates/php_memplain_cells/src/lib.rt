@@ -2,6 +2,7 @@
 #![tactic(auto)]
 
 mod block;
+mod cells;
 mod content;
 mod falling;
 mod load;
@@ -9,6 +10,7 @@ mod objects;
 mod stores;
 
 pub use block::{Block, Variable};
+pub use cells::Cells;
 pub use content::{Content, Item};
 pub use falling::First;
 pub use load::{Elements, Load, Property};

@@ -1,5 +1,5 @@
 // Objects and their holders.
-ghost use Rattle.std.specs.Prelude.{◌≡◌, ◌<◌, ◌≤◌, Some, None, true, false, ◌&&◌, not};
+ghost use Rattle.std.specs.Prelude.{◌≡◌, ◌<◌, length};
 ghost use Rattle.php_memplain_cells.specs.Counts.{count_of_object};
 ghost use Rattle.php_memplain_cells.specs.Dropped.{LostIs, DroppedIs};
 
@@ -65,7 +65,8 @@ pub enum Dropped {
 /// goes.
 pub fn drop_handle(objects: &mut Vec<Option<Box<Object>>>, number: u64) -> Dropped
     requires { 0 < count_of_object objects.old.items number }
-    ensures { DroppedIs result objects.old.items objects.new.items number }
+    ensures dropped { DroppedIs result objects.old.items objects.new.items number }
+    ensures len { length objects.new.items ≡ length objects.old.items }
 {
     let place = (number - 1) as usize;
     let Some(mut object) = objects[place].take() else {

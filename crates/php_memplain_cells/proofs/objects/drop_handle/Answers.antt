@@ -44,8 +44,8 @@ module _ (os : List (Option (Box Object Global))) (h : ℕ) (some : 0 < count_of
   turns_twice : (p : Box Object Global) (o : model.Object) → box_seen p ≡ o → Turns os (slice_set (slice_set os (h - 1) None) (h - 1) (Some p)) h (box_seen taken) (Some o)
   turns_twice p o is = subst (λ ps. Turns os ps h (box_seen taken) (Some o)) (sym (set_twice os (h - 1) None (Some p))) (turns (Some p) (Some o) (ap Some is))
 
-pub returns-in-Held : goal.returns-in-Held
-returns-in-Held c =
+pub returns-in-Held-clause-dropped : goal.returns-in-Held-clause-dropped
+returns-in-Held-clause-dropped c =
     let os = c.args.objects.now.items in
     let h = c.args.number in
     let taken = c.in-Some.object in
@@ -54,8 +54,8 @@ returns-in-Held c =
     subst (λ x. (1 < count_of_object os h) × ((objects_seen (slice_set (slice_set os (h - 1) x) (h - 1) (Some p)) ≡ objects_seen os) × AreFewerHandles os (slice_set (slice_set os (h - 1) x) (h - 1) (Some p)) h)) (sym c.take.ensures.after)
     (held os h c.requires c.index_mut.result.now taken (sym c.in-Some.is ∙ c.take.ensures.value ∙ c.index_mut.ensures.value) p q.1 q.0)
 
-pub returns-in-Due : goal.returns-in-Due
-returns-in-Due c =
+pub returns-in-Due-clause-dropped : goal.returns-in-Due-clause-dropped
+returns-in-Due-clause-dropped c =
     let os = c.args.objects.now.items in
     let h = c.args.number in
     let d = c.index_mut.result.now in
@@ -68,8 +68,8 @@ returns-in-Due c =
     (stays os h c.requires d taken e p (ap (λ (o : Object). o.holders) q.1.1),
     (box_seen taken, (turns_twice os h c.requires d taken e p (record (box_seen taken) { spent = true }) (ap object_seen q.1.1), q.1.0))))
 
-pub returns-in-Framed : goal.returns-in-Framed
-returns-in-Framed c =
+pub returns-in-Framed-clause-dropped : goal.returns-in-Framed-clause-dropped
+returns-in-Framed-clause-dropped c =
     let os = c.args.objects.now.items in
     let h = c.args.number in
     let d = c.index_mut.result.now in
@@ -82,8 +82,8 @@ returns-in-Framed c =
     (stays os h c.requires d taken e p (ap (λ (o : Object). o.holders) q.1.1.1),
     (box_seen taken, (turns_twice os h c.requires d taken e p (record (box_seen taken) { frame = None }) (ap object_seen q.1.1.1), (q.1.0, q.1.1.0)))))
 
-pub returns-in-Gone : goal.returns-in-Gone
-returns-in-Gone c =
+pub returns-in-Gone-clause-dropped : goal.returns-in-Gone-clause-dropped
+returns-in-Gone-clause-dropped c =
     let os = c.args.objects.now.items in
     let h = c.args.number in
     let d = c.index_mut.result.now in
