@@ -71,9 +71,7 @@ impl<T: Drop> Chain<T> {
     pub fn new() -> Chain<T>
         ensures { result ≡ [] }
     {
-        Chain {
-            first: Linked::End,
-        }
+        Chain { first: Linked::End }
     }
 
     /// Puts an item in front of all others.

@@ -1,11 +1,11 @@
 -- A block whose list of what falls is changed more than once.
-use Rattle.std.proofs.Common.{◌≡◌, ℕ, ◌+◌, ◌<◌, ◌≤◌, List, [], ◌∷◌, ◌++◌, refl, sym, ◌∙◌, ap, subst, arith, inl, inr, cond}
-use Rattle.std.specs.Prelude.{Bool, true, false, Option, Some, None, unwrap_or}
+use Rattle.std.proofs.Common.{◌≡◌, ℕ, ◌+◌, ◌<◌, List, [], ◌∷◌, ◌++◌, refl, sym, ◌∙◌, ap, arith, inl, inr, cond}
+use Rattle.std.specs.Prelude.{Bool, true, false, Some, None, unwrap_or}
 use Rattle.std.proofs.lemmas.Bool.{le-leb, lt-leb}
 use Rattle.std.proofs.lemmas.Bool.Decides.{eqb_tells}
 use Rattle.php_memdef.specs.Numbered.{numbered, with_numbered}
-use Rattle.php_memdef.specs.Contents.{Item, value, link, object, Object, Scope, Mem, no_scope, content_of, scope_of, object_of}
-use Rattle.php_memdef.specs.Holders.{times, stores_of_items, stores_of_properties, stores_of_object, handles_of_items, holders, object_holders}
+use Rattle.php_memdef.specs.Contents.{Item, value, object, Object, Scope, Mem, no_scope, content_of, scope_of, object_of}
+use Rattle.php_memdef.specs.Holders.{times, stores_of_properties, stores_of_object, holders, object_holders}
 use Rattle.php_memdef.specs.Places.{with_scope, with_object}
 use Rattle.php_memdef.specs.Temporaries.{with_falling, fallen}
 use Rattle.php_memdef.specs.Releases.{property_links, link_dropped, is_held, is_object_held}

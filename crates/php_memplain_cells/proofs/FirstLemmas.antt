@@ -1,8 +1,8 @@
 -- An array that gives way to its elements.
-use Rattle.std.proofs.Common.{◌≡◌, ℕ, ◌+◌, List, [], ◌∷◌, ◌++◌, refl, sym, ◌∙◌, ap, arith}
+use Rattle.std.proofs.Common.{◌≡◌, ℕ, ◌+◌, List, [], ◌∷◌, ◌++◌, refl, ◌∙◌, ap, arith}
 use Rattle.php_entries.specs.Listing.{Listing}
 use Rattle.php_memdef.specs.Contents.{array, Item, value}
-use Rattle.php_memdef.specs.Holders.{times, stores_of_entries, stores_of_items, handles_of_items}
+use Rattle.php_memdef.specs.Holders.{times, stores_of_entries, stores_of_items}
 use Rattle.php_memdef.specs.Releases.{entry_links}
 use Rattle.php_memdef_laws.proofs.Held.Parts.{times-append}
 use Rattle.php_memdef_laws.proofs.Held.Releases.{entry_links_times, entry_links_handles}

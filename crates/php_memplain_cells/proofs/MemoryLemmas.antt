@@ -1,9 +1,9 @@
 -- What a change of a part makes of a memory as a whole.
-use Rattle.std.proofs.Common.{◌≡◌, ℕ, ◌+◌, ◌<◌, List, [], ◌∷◌, ◌++◌, map, refl, sym, ◌∙◌, ap, subst, arith}
+use Rattle.std.proofs.Common.{◌≡◌, ℕ, ◌+◌, List, refl, sym, ◌∙◌, ap, arith}
 use Rattle.std.specs.Prelude.{Option, Some, None, option_map, unwrap_or, IsSome}
 use Rattle.std.proofs.lemmas.Bool.{false≢true}
 use Rattle.slab.specs.Slab.{get, with_value}
-use Rattle.php_memdef.specs.Numbered.{numbered, with_numbered}
+use Rattle.php_memdef.specs.Numbered.{numbered}
 use Rattle.php_memdef.specs.Contents.{Item, Scope, Mem, no_scope, scope_of}
 use Rattle.php_memdef.specs.Holders.{times, stores_of_items, handles_of_items, holders, object_holders}
 use Rattle.php_memdef.specs.Places.{with_scope}
@@ -37,15 +37,15 @@ module _ (s : Cells) (b : ℕ) (f : Block) (e : get s.blocks b ≡ Some f) where
 pub counted_after : (s t : Cells) (b : ℕ) (xs : List Item) (ss hs : List ℕ) → IsCounted s → t.stores ≡ s.stores → t.objects ≡ s.objects → memory_seen t ≡ with_falling (memory_seen s) b xs → ((k : ℕ) → times k (stores_of_items (falling_in s b)) ≡ times k (stores_of_items xs) + times k ss) → ((h : ℕ) → times h (handles_of_items (falling_in s b)) ≡ times h (handles_of_items xs) + times h hs) → IsCountedWith t ss hs
 counted_after s t b xs ss hs counted st os seen names handles = record {
   stores = λ k. (
-    let m = memory_seen s in
-    let same : count_of_store t.stores k ≡ count_of_store s.stores k = ap (λ x. count_of_store x k) st in
-    let new : holders (memory_seen t) k ≡ holders (with_falling m b xs) k = ap (λ x. holders x k) seen in
-    omega (arith, same, new, counted.stores k, holders-with_falling m k b xs, names k));
+      let m = memory_seen s in
+      let same : count_of_store t.stores k ≡ count_of_store s.stores k = ap (λ x. count_of_store x k) st in
+      let new : holders (memory_seen t) k ≡ holders (with_falling m b xs) k = ap (λ x. holders x k) seen in
+      omega (arith, same, new, counted.stores k, holders-with_falling m k b xs, names k));
   objects = λ h. (
-    let m = memory_seen s in
-    let same : count_of_object t.objects.items h ≡ count_of_object s.objects.items h = ap (λ x. count_of_object x h) (ap (λ x. x.items) os) in
-    let new : object_holders (memory_seen t) h ≡ object_holders (with_falling m b xs) h = ap (λ x. object_holders x h) seen in
-    omega (arith, same, new, counted.objects h, handles-with_falling m h b xs, handles h));
+      let m = memory_seen s in
+      let same : count_of_object t.objects.items h ≡ count_of_object s.objects.items h = ap (λ x. count_of_object x h) (ap (λ x. x.items) os) in
+      let new : object_holders (memory_seen t) h ≡ object_holders (with_falling m b xs) h = ap (λ x. object_holders x h) seen in
+      omega (arith, same, new, counted.objects h, handles-with_falling m h b xs, handles h));
 }
 
 pub found_some : {X : Type 0} (o : Option X) → IsSome o → (x : X) × (o ≡ Some x)

@@ -8,7 +8,7 @@ use Rattle.php_memdef.specs.Holders.{times}
 use Rattle.php_memplain_cells.specs.declared.objects.Object.{Object}
 use Rattle.php_memplain_cells.specs.Seen.{box_seen, objects_seen}
 use Rattle.php_memplain_cells.specs.Counts.{handles_if, count_of_object, AreFewerHandles, AreSameHandles}
-use Rattle.php_memplain_cells.proofs.SlotLemmas.{no_some, at_seen, set_seen, at_same, at_other, set_twice}
+use Rattle.php_memplain_cells.proofs.SlotLemmas.{at_seen, set_seen, at_same, at_other}
 
 -- an object that is held is there
 pub record Found (os : List (Option (Box Object Global))) (h : ℕ) : Type 0 where
@@ -45,14 +45,14 @@ module _ (os : List (Option (Box Object Global))) (k : ℕ) (b : Box Object Glob
   pub fewer_put : (h : ℕ) → h ≡ suc k → (y : Option (Box Object Global)) → handles_if y + 1 ≡ b.value.holders → AreFewerHandles os (slice_set os k y) h
   fewer_put h d y less j = elim (eqb_tells j h) [
     | inl same ↦ (
-      let one : times j (h ∷ []) ≡ 1 = ap (λ t. cond t 1 0 + 0) same.0 in
-      let new : count_of_object (slice_set os k y) j ≡ handles_if y = ap (count_of_object (slice_set os k y)) (same.1 ∙ d) ∙ counts_same y in
-      let old : count_of_object os j ≡ b.value.holders = ap (count_of_object os) (same.1 ∙ d) ∙ counted in
-      omega (arith, one, new, old, less))
+        let one : times j (h ∷ []) ≡ 1 = ap (λ t. cond t 1 0 + 0) same.0 in
+        let new : count_of_object (slice_set os k y) j ≡ handles_if y = ap (count_of_object (slice_set os k y)) (same.1 ∙ d) ∙ counts_same y in
+        let old : count_of_object os j ≡ b.value.holders = ap (count_of_object os) (same.1 ∙ d) ∙ counted in
+        omega (arith, one, new, old, less))
     | inr other ↦ (
-      let none : times j (h ∷ []) ≡ 0 = ap (λ t. cond t 1 0 + 0) other.0 in
-      let new : count_of_object (slice_set os k y) j ≡ count_of_object os j = counts_other y j (λ f. other.1 (f ∙ sym d)) in
-      omega (arith, none, new))
+        let none : times j (h ∷ []) ≡ 0 = ap (λ t. cond t 1 0 + 0) other.0 in
+        let new : count_of_object (slice_set os k y) j ≡ count_of_object os j = counts_other y j (λ f. other.1 (f ∙ sym d)) in
+        omega (arith, none, new))
   ]
 
   pub same_put : (y : Option (Box Object Global)) → handles_if y ≡ b.value.holders → AreSameHandles os (slice_set os k y)

@@ -1,5 +1,5 @@
 -- A memory as a whole, as one of the model.
-use Rattle.std.specs.Prelude.{◌≡◌, ℕ, ◌+◌, List, [], ◌∷◌, map, length, Option, Some, None, option_map}
+use Rattle.std.specs.Prelude.{◌≡◌, ℕ, ◌+◌, List, [], map, length, Option, Some, None, option_map}
 use Rattle.slab.specs.Slab.{get}
 use Rattle.php_memdef.specs.declared.answer.Fallen.{Fallen}
 use Rattle.php_memdef.specs.Contents.{Item, Mem, scope_of}

@@ -1,5 +1,5 @@
 -- What a contract sees of stores, blocks and objects: the parts of a memory of the model.
-use Rattle.std.specs.Prelude.{ℕ, zero, suc, ◌+◌, Bool, true, false, nat_lt, if◌then◌else◌, List, [], ◌∷◌, ◌++◌, map, reverse, drop, length, Option, Some, None, option_map, Box}
+use Rattle.std.specs.Prelude.{ℕ, nat_lt, if◌then◌else◌, List, [], ◌∷◌, ◌++◌, map, reverse, drop, Option, Some, None, option_map, Box}
 use Rattle.std.specs.declared.alloc.Global.{Global}
 use Rattle.slab.specs.Slab.{Slab}
 use Rattle.php_entries.specs.Listing.{Entry}

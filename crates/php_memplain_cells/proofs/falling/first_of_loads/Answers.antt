@@ -1,4 +1,4 @@
-use Rattle.std.proofs.Common.{◌≡◌, ◌++◌, sym, ◌∙◌, ap}
+use Rattle.std.proofs.Common.{◌++◌, sym, ◌∙◌, ap}
 use Rattle.php_memplain_cells.specs.Seen.{load_items, loads_items}
 use Rattle.php_memplain_cells.proofs.FirstLemmas.{array_gives_way}
 use Rattle.php_memplain_cells.proofs.falling.first_of_loads.Goals as goal

@@ -24,10 +24,13 @@ module _ (os : List (Option (Box Object Global))) (h : ℕ) (some : 0 < count_of
   held : (p : Box Object Global) → p.value ≡ record taken.value { holders = taken.value.holders - 1 } → 1 < taken.value.holders → (1 < count_of_object os h) × ((objects_seen (slice_set (slice_set os (h - 1) None) (h - 1) (Some p)) ≡ objects_seen os) × AreFewerHandles os (slice_set (slice_set os (h - 1) None) (h - 1) (Some p)) h)
   held p is more =
       let k = h - 1 in
-      let fewer : p.value.holders ≡ taken.value.holders - 1 = ap (λ (o : Object). o.holders) is in
-      (omega (arith, more, count),
-      (ap objects_seen (set_twice os k None (Some p)) ∙ put_seen os k taken there (Some p) ∙ ap (λ o. with_numbered (objects_seen os) (suc k) (Some o)) (ap object_seen is) ∙ with_same (objects_seen os) (suc k) (box_seen taken) (there_seen os k taken there),
-      subst (λ ps. AreFewerHandles os ps h) (sym (set_twice os k None (Some p))) (fewer_put os k taken there h (found os h some).number (Some p) (omega (arith, fewer, more)))))
+      let fewer : p.value.holders ≡ taken.value.holders - 1 = ap (λ (o : Object). o.holders) is in (
+        omega (arith, more, count),
+        (
+          ap objects_seen (set_twice os k None (Some p)) ∙ put_seen os k taken there (Some p) ∙ ap (λ o. with_numbered (objects_seen os) (suc k) (Some o)) (ap object_seen is) ∙ with_same (objects_seen os) (suc k) (box_seen taken) (there_seen os k taken there),
+          subst (λ ps. AreFewerHandles os ps h) (sym (set_twice os k None (Some p))) (fewer_put os k taken there h (found os h some).number (Some p) (omega (arith, fewer, more))),
+        ),
+      )
 
   stays : (p : Box Object Global) → p.value.holders ≡ taken.value.holders → AreSameHandles os (slice_set (slice_set os (h - 1) None) (h - 1) (Some p))
   stays p same = subst (λ ps. AreSameHandles os ps) (sym (set_twice os (h - 1) None (Some p))) (same_put os (h - 1) taken there (Some p) same)
@@ -63,10 +66,13 @@ returns-in-Due-clause-dropped c =
     let e = sym c.in-Some.is ∙ c.take.ensures.value ∙ c.index_mut.ensures.value in
     let q : LostIs lost.Due taken.value c.lose.new.self = subst (λ o. LostIs lost.Due o c.lose.new.self) c.deref_mut.ensures.value c.in-Due.ensures in
     let p : Box Object Global = record taken { value = c.lose.new.self } in
-    subst (λ x. (count_of_object os h ≡ 1) × (AreSameHandles os (slice_set (slice_set os (h - 1) x) (h - 1) (Some p)) × ((o : model.Object) × (Turns os (slice_set (slice_set os (h - 1) x) (h - 1) (Some p)) h o (Some (record o { spent = true })) × (is_due o ≡ true))))) (sym c.take.ensures.after)
-    (count os h c.requires d taken e ∙ q.0,
-    (stays os h c.requires d taken e p (ap (λ (o : Object). o.holders) q.1.1),
-    (box_seen taken, (turns_twice os h c.requires d taken e p (record (box_seen taken) { spent = true }) (ap object_seen q.1.1), q.1.0))))
+    subst (λ x. (count_of_object os h ≡ 1) × (AreSameHandles os (slice_set (slice_set os (h - 1) x) (h - 1) (Some p)) × ((o : model.Object) × (Turns os (slice_set (slice_set os (h - 1) x) (h - 1) (Some p)) h o (Some (record o { spent = true })) × (is_due o ≡ true))))) (sym c.take.ensures.after) (
+      count os h c.requires d taken e ∙ q.0,
+      (
+        stays os h c.requires d taken e p (ap (λ (o : Object). o.holders) q.1.1),
+        (box_seen taken, (turns_twice os h c.requires d taken e p (record (box_seen taken) { spent = true }) (ap object_seen q.1.1), q.1.0)),
+      ),
+    )
 
 pub returns-in-Framed-clause-dropped : goal.returns-in-Framed-clause-dropped
 returns-in-Framed-clause-dropped c =
@@ -77,10 +83,13 @@ returns-in-Framed-clause-dropped c =
     let e = sym c.in-Some.is ∙ c.take.ensures.value ∙ c.index_mut.ensures.value in
     let q : LostIs (lost.Framed c.in-Framed.frame) taken.value c.lose.new.self = subst (λ o. LostIs (lost.Framed c.in-Framed.frame) o c.lose.new.self) c.deref_mut.ensures.value c.in-Framed.ensures in
     let p : Box Object Global = record taken { value = c.lose.new.self } in
-    subst (λ x. (count_of_object os h ≡ 1) × (AreSameHandles os (slice_set (slice_set os (h - 1) x) (h - 1) (Some p)) × ((o : model.Object) × (Turns os (slice_set (slice_set os (h - 1) x) (h - 1) (Some p)) h o (Some (record o { frame = None })) × ((is_due o ≡ false) × (o.frame ≡ Some c.in-Framed.frame)))))) (sym c.take.ensures.after)
-    (count os h c.requires d taken e ∙ q.0,
-    (stays os h c.requires d taken e p (ap (λ (o : Object). o.holders) q.1.1.1),
-    (box_seen taken, (turns_twice os h c.requires d taken e p (record (box_seen taken) { frame = None }) (ap object_seen q.1.1.1), (q.1.0, q.1.1.0)))))
+    subst (λ x. (count_of_object os h ≡ 1) × (AreSameHandles os (slice_set (slice_set os (h - 1) x) (h - 1) (Some p)) × ((o : model.Object) × (Turns os (slice_set (slice_set os (h - 1) x) (h - 1) (Some p)) h o (Some (record o { frame = None })) × ((is_due o ≡ false) × (o.frame ≡ Some c.in-Framed.frame)))))) (sym c.take.ensures.after) (
+      count os h c.requires d taken e ∙ q.0,
+      (
+        stays os h c.requires d taken e p (ap (λ (o : Object). o.holders) q.1.1.1),
+        (box_seen taken, (turns_twice os h c.requires d taken e p (record (box_seen taken) { frame = None }) (ap object_seen q.1.1.1), (q.1.0, q.1.1.0))),
+      ),
+    )
 
 pub returns-in-Gone-clause-dropped : goal.returns-in-Gone-clause-dropped
 returns-in-Gone-clause-dropped c =
@@ -92,7 +101,10 @@ returns-in-Gone-clause-dropped c =
     let q : LostIs lost.Gone taken.value c.lose.new.self = subst (λ o. LostIs lost.Gone o c.lose.new.self) c.deref_mut.ensures.value c.in-Gone.ensures in
     let f = found os h c.requires in
     let one : count_of_object os h ≡ 1 = count os h c.requires d taken e ∙ q.0 in
-    subst (λ x. (count_of_object os h ≡ 1) × (AreFewerHandles os (slice_set os (h - 1) x) h × ((o : model.Object) × (Turns os (slice_set os (h - 1) x) h o None × ((is_due o ≡ false) × ((o.frame ≡ None) × (o.properties ≡ map property_seen c.into_inner-object.result.properties.items))))))) (sym c.take.ensures.after)
-    (one,
-    (fewer_put os (h - 1) taken (there os h c.requires d taken e) h f.number None (omega (arith, q.0)),
-    (box_seen taken, (turns os h c.requires d taken e None None refl, (q.1.0, (q.1.1.0, ap (λ (o : Object). map property_seen o.properties.items) (sym q.1.1.1 ∙ sym c.into_inner-object.ensures)))))))
+    subst (λ x. (count_of_object os h ≡ 1) × (AreFewerHandles os (slice_set os (h - 1) x) h × ((o : model.Object) × (Turns os (slice_set os (h - 1) x) h o None × ((is_due o ≡ false) × ((o.frame ≡ None) × (o.properties ≡ map property_seen c.into_inner-object.result.properties.items))))))) (sym c.take.ensures.after) (
+      one,
+      (
+        fewer_put os (h - 1) taken (there os h c.requires d taken e) h f.number None (omega (arith, q.0)),
+        (box_seen taken, (turns os h c.requires d taken e None None refl, (q.1.0, (q.1.1.0, ap (λ (o : Object). map property_seen o.properties.items) (sym q.1.1.1 ∙ sym c.into_inner-object.ensures))))),
+      ),
+    )

@@ -1,4 +1,4 @@
-use Rattle.std.proofs.Common.{◌≡◌, ◌∷◌, ◌++◌, map, refl, sym, ◌∙◌, ap}
+use Rattle.std.proofs.Common.{◌∷◌, ◌++◌, map, ◌∙◌, ap}
 use Rattle.php_memdef.specs.Contents.{value}
 use Rattle.php_memplain_cells.specs.Seen.{content_seen, item_seen, loads_items, handle_items}
 use Rattle.php_memplain_cells.proofs.FirstLemmas.{array_gives_way, all_waits, one_waits}

@@ -1,17 +1,15 @@
-use Rattle.std.proofs.Common.{◌≡◌, ℕ, ◌+◌, ◌<◌, List, [], ◌∷◌, ◌++◌, length, map, refl, sym, ◌∙◌, ap, subst, arith}
-use Rattle.std.specs.Prelude.{Bool, true, false, Option, Some, None, Box, unwrap_or, drop}
+use Rattle.std.proofs.Common.{◌≡◌, ℕ, ◌+◌, ◌<◌, List, [], ◌∷◌, ◌++◌, length, map, refl, sym, ◌∙◌, ap, arith}
+use Rattle.std.specs.Prelude.{true, false, Option, Some, None, Box, unwrap_or}
 use Rattle.std.specs.declared.alloc.Global.{Global}
 use Rattle.std.specs.Global.{Vec}
 use Rattle.slab.specs.Slab.{get, with_value}
-use Rattle.php_memdef.specs.declared.answer.Fallen.{Fallen}
 use Rattle.php_memdef.specs.declared.answer.Fallen.TheVariants.{Destroy, Frame as FrameOf}
 use Rattle.php_memdef.specs.Numbered.{numbered, with_numbered}
 use Rattle.php_memdef.specs.Contents as model
 use Rattle.php_memdef.specs.Contents.{Item, value, object, Mem, scope_of, object_of, no_object}
-use Rattle.php_memdef.specs.Holders.{times, holders, object_holders, stores_of_object, stores_of_properties}
 use Rattle.php_memdef.specs.Places.{with_object}
 use Rattle.php_memdef.specs.Temporaries.{with_falling}
-use Rattle.php_memdef.specs.Releases.{Turn, goes_on, stops, property_links, handle_dropped, object_released, object_removed, is_object_held}
+use Rattle.php_memdef.specs.Releases.{goes_on, stops, property_links, handle_dropped, object_released, object_removed, is_object_held}
 use Rattle.php_memplain_cells.specs.declared.block.Block.{Block}
 use Rattle.php_memplain_cells.specs.declared.load.Property.{Property}
 use Rattle.php_memplain_cells.specs.declared.load.Load.{Load}
@@ -19,12 +17,11 @@ use Rattle.php_memplain_cells.specs.declared.load.Load.TheVariants.{Properties}
 use Rattle.php_memplain_cells.specs.declared.objects.Object.{Object}
 use Rattle.php_memplain_cells.specs.declared.cells.Cells.{Cells}
 use Rattle.php_memplain_cells.specs.Seen.{item_seen, property_seen, loads_items, handle_items, objects_seen, scope_seen, block_falling}
-use Rattle.php_memplain_cells.specs.Counts.{count_of_store, count_of_object, AreFewerHandles, AreSameHandles}
-use Rattle.php_memplain_cells.specs.Dropped.{Turns, is_due, DroppedIs}
-use Rattle.php_memplain_cells.specs.declared.objects.Dropped.TheVariants.{Held, Due, Framed, Gone}
-use Rattle.php_memplain_cells.specs.Memory.{memory_seen, falling_in, HasNoHandle, IsCounted, IsCountedWith, turn_of}
+use Rattle.php_memplain_cells.specs.Counts.{count_of_object, AreFewerHandles, AreSameHandles}
+use Rattle.php_memplain_cells.specs.Dropped.{is_due}
+use Rattle.php_memplain_cells.specs.Memory.{memory_seen, falling_in, IsCounted, IsCountedWith}
 use Rattle.php_memplain_cells.proofs.FirstLemmas.{joined_thrice}
-use Rattle.php_memplain_cells.proofs.FallingLemmas.{falling_same, falling_twice, object_held_true, object_held_false, times_one, put_back, back_holders, back_handles, without_it, without_holders, without_handles}
+use Rattle.php_memplain_cells.proofs.FallingLemmas.{falling_same, falling_twice, object_held_true, object_held_false, times_one, back_holders, back_handles, without_it, without_holders, without_handles}
 use Rattle.php_memplain_cells.proofs.MemoryLemmas.{block_there, scope_there, falls_put, found_some, counted_by}
 use Rattle.php_memplain_cells.proofs.cells.Cells.release_handle.Goals as goal
 

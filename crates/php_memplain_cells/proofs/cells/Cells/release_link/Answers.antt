@@ -1,12 +1,12 @@
-use Rattle.std.proofs.Common.{◌≡◌, ℕ, ◌+◌, ◌<◌, List, [], ◌∷◌, ◌++◌, refl, sym, ◌∙◌, ap, subst, arith}
-use Rattle.std.specs.Prelude.{true, false, Option, Some, None, unwrap_or}
+use Rattle.std.proofs.Common.{◌≡◌, ℕ, ◌<◌, [], ◌∷◌, ◌++◌, refl, sym, ◌∙◌, ap, arith}
+use Rattle.std.specs.Prelude.{false, Some, None, unwrap_or}
 use Rattle.slab.specs.Slab.{Slab, get, with_value}
 use Rattle.php_memdef.specs.Numbered.{numbered, with_numbered}
 use Rattle.php_memdef.specs.Contents as model
 use Rattle.php_memdef.specs.Contents.{value, content_of, scope_of}
-use Rattle.php_memdef.specs.Holders.{times, holders}
+use Rattle.php_memdef.specs.Holders.{holders}
 use Rattle.php_memdef.specs.Temporaries.{with_falling, fallen}
-use Rattle.php_memdef.specs.Releases.{link_dropped, is_held}
+use Rattle.php_memdef.specs.Releases.{link_dropped}
 use Rattle.php_memplain_cells.specs.declared.block.Block.{Block}
 use Rattle.php_memplain_cells.specs.declared.content.Content.{Content}
 use Rattle.php_memplain_cells.specs.declared.stores.Store.{Store}

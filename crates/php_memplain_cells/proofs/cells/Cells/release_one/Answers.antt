@@ -1,17 +1,17 @@
-use Rattle.std.proofs.Common.{◌≡◌, ℕ, ◌+◌, List, [], ◌∷◌, ◌++◌, refl, sym, ◌∙◌, ap, subst, arith}
-use Rattle.std.specs.Prelude.{Option, Some, None}
+use Rattle.std.proofs.Common.{◌≡◌, ℕ, List, [], ◌∷◌, ◌++◌, sym, ◌∙◌, ap, arith}
+use Rattle.std.specs.Prelude.{Some}
 use Rattle.slab.specs.Slab.{get}
 use Rattle.php_memdef.specs.declared.answer.Fallen.TheVariants.{Nothing}
-use Rattle.php_memdef.specs.Contents.{Item, value, link, object, Mem, scope_of, object_of}
+use Rattle.php_memdef.specs.Contents.{Item, value, link, object, object_of}
 use Rattle.php_memdef.specs.Holders.{times, stores_of_items, handles_of_items}
 use Rattle.php_memdef.specs.Temporaries.{with_falling}
-use Rattle.php_memdef.specs.Releases.{Turn, goes_on, stops, link_dropped, handle_dropped, is_held, is_object_held, first_released, turn}
+use Rattle.php_memdef.specs.Releases.{goes_on, stops, link_dropped, handle_dropped, is_held, is_object_held, first_released}
 use Rattle.php_memdef_laws.proofs.Held.Parts.{item_times, item_handles, items_times, items_handles}
 use Rattle.php_memplain_cells.specs.declared.block.Block.{Block}
 use Rattle.php_memplain_cells.specs.declared.cells.Cells.{Cells}
 use Rattle.php_memplain_cells.specs.Seen.{scope_seen}
 use Rattle.php_memplain_cells.specs.Falls.{GivesWay}
-use Rattle.php_memplain_cells.specs.Memory.{memory_seen, falling_in, IsCounted, IsCountedWith, turn_of}
+use Rattle.php_memplain_cells.specs.Memory.{memory_seen, falling_in}
 use Rattle.php_memplain_cells.proofs.FallingLemmas.{falling_same, falling_twice, link_again}
 use Rattle.php_memplain_cells.proofs.MemoryLemmas.{block_there, counted_after, found_some}
 use Rattle.php_memplain_cells.proofs.cells.Cells.release_one.Goals as goal

@@ -1,8 +1,8 @@
-use Rattle.std.proofs.Common.{◌≡◌, sym, ◌∙◌, ap, subst}
+use Rattle.std.proofs.Common.{sym, ◌∙◌, ap, subst}
 use Rattle.slab.specs.Slab.{with_value}
 use Rattle.php_memdef.specs.Contents.{Scope}
 use Rattle.php_memdef.specs.Temporaries.{with_falling}
-use Rattle.php_memplain_cells.specs.Seen.{scope_seen, block_falling}
+use Rattle.php_memplain_cells.specs.Seen.{block_falling}
 use Rattle.php_memplain_cells.specs.Falls.{FirstIs}
 use Rattle.php_memplain_cells.specs.Memory.{memory_seen, falling_in}
 use Rattle.php_memplain_cells.proofs.MemoryLemmas.{scope_there, falling_put, falls_put}

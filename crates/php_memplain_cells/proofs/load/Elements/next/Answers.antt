@@ -1,5 +1,4 @@
-use Rattle.std.proofs.Common.{◌≡◌, ℕ, sym, ◌∙◌, ap}
-use Rattle.std.specs.Prelude.{Option}
+use Rattle.std.proofs.Common.{ℕ, sym, ◌∙◌, ap}
 use Rattle.std.specs.Option.{option_map}
 use Rattle.php_entries.specs.Listing.{Entry}
 use Rattle.php_memdef.specs.Releases.{entry_links}
