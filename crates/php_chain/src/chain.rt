@@ -14,13 +14,13 @@ enum Linked<T> {
 
 impl<T: Drop> Linked<T> {
     // The first item and what is behind it.
-    fn split(self) -> Option<(T, Linked<T>)>
-        ensures some { IfSome result (λ r. items_of self ≡ r.0 ∷ items_of r.1) }
+    fn split(self) -> Option<(T, Box<Linked<T>>)>
+        ensures some { IfSome result (λ r. items_of self ≡ r.0 ∷ items_of r.1.value) }
         ensures none { IfNone result (items_of self ≡ []) }
     {
         match self {
             Linked::End => None,
-            Linked::More(item, rest) => Some((item, Box::into_inner(rest))),
+            Linked::More(item, rest) => Some((item, rest)),
         }
     }
 }
@@ -71,9 +71,7 @@ impl<T: Drop> Chain<T> {
     pub fn new() -> Chain<T>
         ensures { result ≡ [] }
     {
-        Chain {
-            first: Linked::End,
-        }
+        Chain { first: Linked::End }
     }
 
     /// Puts an item in front of all others.
@@ -85,16 +83,16 @@ impl<T: Drop> Chain<T> {
         self.first = Linked::More(item, room);
     }
 
-    /// Takes the first item out.
-    pub fn pop(&mut self) -> Option<T>
-        ensures some { IfSome result (λ item. self.old ≡ item ∷ self.new) }
+    /// Takes the first item out, with its link.
+    pub fn pop(&mut self) -> Option<(T, Link<T>)>
+        ensures some { IfSome result (λ r. self.old ≡ r.0 ∷ self.new) }
         ensures none { IfNone result ((self.old ≡ []) × (self.new ≡ [])) }
     {
         let first = mem::replace(&mut self.first, Linked::End);
-        let Some((item, rest)) = first.split() else {
+        let Some((item, mut room)) = first.split() else {
             return None;
         };
-        self.first = rest;
-        Some(item)
+        self.first = mem::replace(&mut *room, Linked::End);
+        Some((item, Link { room }))
     }
 }

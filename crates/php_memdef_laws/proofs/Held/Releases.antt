@@ -17,19 +17,19 @@ use Rattle.php_memdef_laws.proofs.NumberedLemmas.{numbered-with_same, numbered-w
 use Rattle.php_memdef_laws.proofs.Held.Parts.{held_after, same_there, handles_of_item, item_times, item_handles, items_times, items_handles, fallen_times, fallen_handles, holders-with_store, handles-with_store, holders-with_object, handles-with_object, holders-with_falling, handles-with_falling}
 use Rattle.php_memdef_laws.proofs.Held.Writes.{weight_of_live}
 
-entry_links_times : (x : ℕ) (es : List (Entry ℕ)) → times x (stores_of_items (entry_links es)) ≡ times x (stores_of_entries es)
+pub entry_links_times : (x : ℕ) (es : List (Entry ℕ)) → times x (stores_of_items (entry_links es)) ≡ times x (stores_of_entries es)
 entry_links_times x [] = refl
 entry_links_times x (e ∷ es) = omega (arith, item_times x (link e.value) (entry_links es), entry_links_times x es)
 
-entry_links_handles : (x : ℕ) (es : List (Entry ℕ)) → times x (handles_of_items (entry_links es)) ≡ 0
+pub entry_links_handles : (x : ℕ) (es : List (Entry ℕ)) → times x (handles_of_items (entry_links es)) ≡ 0
 entry_links_handles x [] = refl
 entry_links_handles x (e ∷ es) = entry_links_handles x es
 
-property_links_times : (x : ℕ) (ps : List Property) → times x (stores_of_items (property_links ps)) ≡ times x (stores_of_properties ps)
+pub property_links_times : (x : ℕ) (ps : List Property) → times x (stores_of_items (property_links ps)) ≡ times x (stores_of_properties ps)
 property_links_times x [] = refl
 property_links_times x (p ∷ ps) = omega (arith, item_times x (link p.store) (property_links ps), property_links_times x ps)
 
-property_links_handles : (x : ℕ) (ps : List Property) → times x (handles_of_items (property_links ps)) ≡ 0
+pub property_links_handles : (x : ℕ) (ps : List Property) → times x (handles_of_items (property_links ps)) ≡ 0
 property_links_handles x [] = refl
 property_links_handles x (p ∷ ps) = property_links_handles x ps
 

@@ -1,0 +1,6 @@
+pub mod SlotLemmas
+pub mod LoadLemmas
+pub mod FirstLemmas
+pub mod ObjectLemmas
+pub mod FallingLemmas
+pub mod MemoryLemmas
