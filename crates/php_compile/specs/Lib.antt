@@ -1,0 +1,3 @@
+pub mod ExpressionCode
+pub mod StatementCode
+pub mod Compiled

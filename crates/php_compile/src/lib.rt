@@ -1,0 +1,4 @@
+// From a script to its code.
+#![tactic(auto)]
+
+pub mod laws;
