@@ -1,5 +1,6 @@
 -- Which actions forms of the script stand for.
 use Rattle.std.specs.Prelude.{ℕ, nat_eq, Bool, true, false, cond, pos, List, [], ◌∷◌, Option, Some, None}
+use Rattle.php_value.specs.declared.op.Op.{Op}
 use Rattle.php_value.specs.declared.op.Op.TheVariants as op
 use Rattle.php_value.specs.declared.scalar.Scalar.{Scalar}
 use Rattle.php_value.specs.declared.scalar.Scalar.TheVariants as scalar
@@ -21,6 +22,7 @@ use Rattle.php_actions.specs.declared.places.PlaceAction.TheVariants.{Read, Assi
 use Rattle.php_actions.specs.declared.place_form.BaseForm.{BaseForm}
 use Rattle.php_actions.specs.declared.place_form.BaseForm.TheVariants.{Variable, This}
 use Rattle.php_actions.specs.declared.place_form.PlaceForm.{PlaceForm}
+use Rattle.php_actions.specs.declared.operators.OperatorAction.{OperatorAction}
 use Rattle.php_actions.specs.declared.operators.OperatorAction.TheVariants.{Operate, ExclusiveOr, ToBool, Not, ToInt, ToText, Sign, Complement}
 use Rattle.php_actions.specs.declared.output.OutputAction.TheVariants.{Print}
 use Rattle.php_actions.specs.declared.names.NameAction.TheVariants.{PushConstant}
@@ -65,8 +67,11 @@ magic_value at magic_word.Class = scalar.Str []
 magic_value at magic_word.Function = scalar.Str []
 magic_value at magic_word.Method = scalar.Str []
 
+abbrev pub read_action : PlaceForm → Action
+read_action form = Place (Read form)
+
 abbrev pub leaf_action : Names → Note → Leaf → Action
-leaf_action ns at (variable n) = Place (Read (variable_form ns n))
+leaf_action ns at (variable n) = read_action (variable_form ns n)
 leaf_action ns at (int n) = push (scalar.Int n)
 leaf_action ns at (string t) = push (scalar.Str t)
 leaf_action ns at (name n) = constant_action (constant_of n) n
@@ -74,21 +79,27 @@ leaf_action ns at (magic m) = push (magic_value at m)
 
 -- ---- operators
 
+abbrev pub operator : OperatorAction → Action
+operator a = Operator a
+
+abbrev pub operate : Op → Action
+operate o = operator (Operate o)
+
 -- none of an operator that isn't told yet
 abbrev pub binary_action : Binary → Option Action
-binary_action binary.Power = Some (Operator (Operate op.Pow))
-binary_action binary.Times = Some (Operator (Operate op.Mul))
-binary_action binary.Divided = Some (Operator (Operate op.Div))
-binary_action binary.Remainder = Some (Operator (Operate op.Mod))
-binary_action binary.Plus = Some (Operator (Operate op.Add))
-binary_action binary.Minus = Some (Operator (Operate op.Sub))
-binary_action binary.Concatenated = Some (Operator (Operate op.Concat))
-binary_action binary.ShiftedLeft = Some (Operator (Operate op.Shl))
-binary_action binary.ShiftedRight = Some (Operator (Operate op.Shr))
-binary_action binary.BitAnd = Some (Operator (Operate op.And))
-binary_action binary.BitXor = Some (Operator (Operate op.Xor))
-binary_action binary.BitOr = Some (Operator (Operate op.Or))
-binary_action binary.WordXor = Some (Operator ExclusiveOr)
+binary_action binary.Power = Some (operate op.Pow)
+binary_action binary.Times = Some (operate op.Mul)
+binary_action binary.Divided = Some (operate op.Div)
+binary_action binary.Remainder = Some (operate op.Mod)
+binary_action binary.Plus = Some (operate op.Add)
+binary_action binary.Minus = Some (operate op.Sub)
+binary_action binary.Concatenated = Some (operate op.Concat)
+binary_action binary.ShiftedLeft = Some (operate op.Shl)
+binary_action binary.ShiftedRight = Some (operate op.Shr)
+binary_action binary.BitAnd = Some (operate op.And)
+binary_action binary.BitXor = Some (operate op.Xor)
+binary_action binary.BitOr = Some (operate op.Or)
+binary_action binary.WordXor = Some (operator ExclusiveOr)
 binary_action binary.Less = None
 binary_action binary.LessEqual = None
 binary_action binary.Greater = None
@@ -107,13 +118,13 @@ binary_action binary.WordOr = None
 
 -- none of one that does nothing, or isn't told yet
 abbrev pub prefix_action : Prefix → Option Action
-prefix_action prefix.BitNot = Some (Operator Complement)
-prefix_action prefix.ToInt = Some (Operator ToInt)
-prefix_action prefix.ToBool = Some (Operator ToBool)
-prefix_action prefix.ToText = Some (Operator ToText)
-prefix_action prefix.Plus = Some (Operator (Sign false))
-prefix_action prefix.Minus = Some (Operator (Sign true))
-prefix_action prefix.Not = Some (Operator Not)
+prefix_action prefix.BitNot = Some (operator Complement)
+prefix_action prefix.ToInt = Some (operator ToInt)
+prefix_action prefix.ToBool = Some (operator ToBool)
+prefix_action prefix.ToText = Some (operator ToText)
+prefix_action prefix.Plus = Some (operator (Sign false))
+prefix_action prefix.Minus = Some (operator (Sign true))
+prefix_action prefix.Not = Some (operator Not)
 prefix_action prefix.Print = Some (Output Print)
 prefix_action prefix.Silence = None
 prefix_action prefix.Clone = None

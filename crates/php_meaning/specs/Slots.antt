@@ -1,6 +1,7 @@
 -- Which number a variable of a function has: the script's own part has `argv` as 0 and `argc` as 1, and then
 -- its names as they first occur.
-use Rattle.std.specs.Prelude.{ℕ, zero, suc, nat_eq, Bool, cond, List, [], ◌∷◌, codes}
+use Rattle.std.specs.Prelude.{ℕ, zero, nat_eq, Bool, cond, List, [], ◌∷◌, ◌++◌, Option, Some, None, if◌then◌else◌, codes}
+use Rattle.std.specs.List.{list_any, position}
 use Rattle.std.specs.Cmp.Lexicographic.{pointwise}
 use Rattle.php_ast.specs.expression.Tree.{Leaf, variable, int, string, name, magic, Enclosure, parentheses, emptiness, exiting}
 use Rattle.php_ast.specs.expression.Tree.{Tree, leaf, template, enclosed, listed, exit, exit_empty, static_member, append, index, selected, computed, call, new, new_with, prefix, count, binary, instance_of, instance_of_static, choice, short_choice, assign, yield_nothing, yield_value, yield_pair}
@@ -13,14 +14,17 @@ use Rattle.php_ast.specs.expression.View.{Note}
 abbrev pub Names : Type 0
 Names = List (List ℕ)
 
--- the place of a name, and behind them all for one that isn't there
+-- the number of a place, if there is one
+abbrev pub number_of : Option ℕ → ℕ
+number_of None = zero
+number_of (Some n) = n
+
+-- the place of a name among the others, from 0
 abbrev pub slot_in : Names → List ℕ → ℕ
-slot_in [] n = zero
-slot_in (m ∷ ms) n = cond (pointwise nat_eq n m) zero (suc (slot_in ms n))
+slot_in ns n = number_of (position (pointwise nat_eq n) ns)
 
 abbrev pub with_name : Names → List ℕ → Names
-with_name [] n = n ∷ []
-with_name (m ∷ ms) n = cond (pointwise nat_eq n m) (m ∷ ms) (m ∷ with_name ms n)
+with_name ns n = if list_any (pointwise nat_eq n) ns then ns else ns ++ n ∷ []
 
 abbrev pub is_this : List ℕ → Bool
 is_this n = pointwise nat_eq n (codes "this")
