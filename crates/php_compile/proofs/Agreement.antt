@@ -76,7 +76,7 @@ module _ (script : Script Note) where
   begins (suc f) =
       let none : slice_get functions (suc f) ≡ None = slice_get_past functions (suc f) (omega arith) in
       let bare : (o : Option Function) → o ≡ None → (decoded (suc f) 0 (slice_get (code_in o) 0) ≡ None) × (around 0 (ranges_in o) ≡ [])
-          = λ o e. (ap (λ u. decoded (suc f) 0 (slice_get (code_in u) 0)) e, ap (λ u. around 0 (ranges_in u)) e) in
+      = λ o e. (ap (λ u. decoded (suc f) 0 (slice_get (code_in u) 0)) e, ap (λ u. around 0 (ranges_in u)) e) in
       let b = bare (slice_get functions (suc f)) none in
       (refl, [], (b.1, 0, 0, refl, (b.0, b.1, refl)))
 

@@ -97,7 +97,7 @@ module _ (script : Script Note) (functions : List Function) (f : ℕ) where
       let front = lies_front functions f p (task_code ns t) (tasks_code ns ts) rs h in
       let back = lies_back functions f p (task_code ns t) (tasks_code ns ts) rs h in
       let e : p + length (task_code ns t ++ tasks_code ns ts) ≡ p + length (task_code ns t) + length (tasks_code ns ts)
-          = omega (arith, length-append (task_code ns t) (tasks_code ns ts)) in
+      = omega (arith, length-append (task_code ns t) (tasks_code ns ts)) in
       let rest = all_reach ts k (p + length (task_code ns t)) rs back (subst (λ n. Reach ns functions f k n rs) e v) in
       (lies_here functions f p (task_code ns t) rs front rest.0, 0, p, refl, (front, rest))
 

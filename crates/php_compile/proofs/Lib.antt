@@ -5,3 +5,4 @@ pub mod Weights
 pub mod Lists
 pub mod NameLoops
 pub mod Variables
+pub mod CodeLoops

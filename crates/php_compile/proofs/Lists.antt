@@ -39,7 +39,7 @@ sequence_end t (y ∷ xs) x = sequence_end (then_also t y) xs x
 
 -- A loop over the parts of such a form keeps what a walk makes of those before.
 module _ {A B T V : Type 0} (from : T → List B → T) (more : T → B → T) (at_end : (t : T) (xs : List B) (x : B) → from t (xs ++ x ∷ []) ≡ more (from t xs) x)
-         (measure : V → T → V) (each : V → B → V) (grows : (v : V) (t : T) (x : B) → measure v (more t x) ≡ each (measure v t) x) (g : A → B) where
+    (measure : V → T → V) (each : V → B → V) (grows : (v : V) (t : T) (x : B) → measure v (more t x) ≡ each (measure v t) x) (g : A → B) where
   pub kept : (start : T) (v old new : V) (xs : List A) (i : ℕ) (x : A) → i < length xs → x ≡ get_or xs i x
       → old ≡ measure v (from start (map g (take i xs))) → new ≡ each old (g x) → new ≡ measure v (from start (map g (take (i + 1) xs)))
   kept start v old new xs i x within is before one =

@@ -5,17 +5,17 @@ use Rattle.php_ast.specs.declared.expression.Piece.{Piece}
 use Rattle.php_ast.specs.declared.expression.Piece.TheVariants as piece
 use Rattle.php_ast.specs.declared.expression.Link.{Link}
 use Rattle.php_ast.specs.declared.expression.Link.TheVariants as link
-use Rattle.php_ast.specs.expression.Tree.{Tree}
+use Rattle.php_ast.specs.expression.Tree.{Tree, Pieces}
 use Rattle.php_ast.specs.expression.View.{Note}
 use Rattle.php_actions.specs.declared.action.Action.TheVariants.{Operator, Output}
-use Rattle.php_actions.specs.declared.operators.OperatorAction.TheVariants.{ToText}
+use Rattle.php_actions.specs.declared.operators.OperatorAction.TheVariants.{ToText, Join}
 use Rattle.php_actions.specs.declared.output.OutputAction.TheVariants.{Echo}
 use Rattle.php_code.specs.declared.instr.Instr.{Instr}
 use Rattle.php_code.specs.declared.instr.Instr.TheVariants.{Do}
 use Rattle.php_meaning.specs.Slots.{Names, names_of}
 use Rattle.php_meaning.specs.Forms.{push, binary_action}
-use Rattle.php_meaning.specs.Heights.{peak_of, peak_of_two}
-use Rattle.php_compile.specs.ExpressionCode.{expr_code, right_code}
+use Rattle.php_meaning.specs.Heights.{peak_of, peak_of_two, piece_count}
+use Rattle.php_compile.specs.ExpressionCode.{expr_code, pieces_code, right_code}
 
 -- ---- a piece of a template
 
@@ -30,6 +30,9 @@ piece_code ns (piece.Part e) = expr_code ns e ++ Do (Operator ToText) ∷ []
 abbrev pub piece_peak : Names → ℕ → ℕ → Piece (Tree Note) → ℕ
 piece_peak ns n m (piece.Bytes t) = max m (n + 1)
 piece_peak ns n m (piece.Part e) = peak_of ns n m e
+
+abbrev pub template_code : Names → Pieces Note → List Instr
+template_code ns ps = pieces_code ns ps ++ Do (Operator (Join (piece_count ps))) ∷ []
 
 -- ---- an operator and what stands behind it
 

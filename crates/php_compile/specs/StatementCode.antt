@@ -12,12 +12,15 @@ use Rattle.php_meaning.specs.Slots.{Names}
 use Rattle.php_meaning.specs.Forms.{tick}
 use Rattle.php_compile.specs.ExpressionCode.{expr_code, echo_code}
 
+abbrev pub inline_code : Note → List ℕ → List Instr
+inline_code at t = Do (tick at) ∷ Do (Output (Write t)) ∷ []
+
 module _ (ns : Names) where
   abbrev mutual
     -- over so many temporaries
     pub statement_code : ℕ → Statement Note → List Instr
     statement_code d (block at ss) = statements_code d ss
-    statement_code d (inline at t) = Do (tick at) ∷ Do (Output (Write t)) ∷ []
+    statement_code d (inline at t) = inline_code at t
     statement_code d (expression at e) = Do (tick at) ∷ (expr_code ns e ++ Do (Stack Drop) ∷ [])
     statement_code d (echo at is) = Do (tick at) ∷ echo_code ns is
     statement_code d _ = []

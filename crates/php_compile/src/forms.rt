@@ -241,17 +241,11 @@ pub fn prefix_action(op: Prefix) -> Option<Action>
     }
 }
 
-pub fn read_action(
-    alloc: Global,
-    names: &IndexSet<Text>,
-    name: &Text,
-) -> Result<Action, NoMemory>
+pub fn read_action(alloc: Global, names: &IndexSet<Text>, name: &Text) -> Result<Action, NoMemory>
     ensures { IfOk result (λ action. action ≡ form.read_action (form.variable_form names.now.keys
         name.now)) }
 {
-    Ok(Action::Place(PlaceAction::Read(variable_form(
-        alloc, names, name,
-    )?)))
+    Ok(Action::Place(PlaceAction::Read(variable_form(alloc, names, name)?)))
 }
 
 pub fn assign_action(place: PlaceForm) -> Action

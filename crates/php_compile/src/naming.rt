@@ -89,11 +89,7 @@ fn name_piece(names: &mut IndexSet<Text>, piece: &Piece<Expr>) -> Result<(), NoM
 }
 
 #[cycle(names_of_expressions)]
-fn name_run(
-    names: &mut IndexSet<Text>,
-    first: &Expr,
-    links: &[Link<Expr>],
-) -> Result<(), NoMemory>
+fn name_run(names: &mut IndexSet<Text>, first: &Expr, links: &[Link<Expr>]) -> Result<(), NoMemory>
     ensures { OnOk result (names.new.keys ≡ names_of names.old.keys
         (with_links (view first.now) (map (link_with view) links.now))) }
 {
