@@ -7,7 +7,6 @@ use Rattle.php_frames.specs.declared.ranges.Serves.TheVariants.{Loop}
 use Rattle.php_frames.specs.declared.completion.Completion.TheVariants.{Break, Return}
 use Rattle.php_machine.specs.Moves.{Outcome, Ended, Stuck, Unnumbered, Unfinished}
 use Rattle.php_machine.specs.Machine.{runs}
-use Rattle.php_actions.specs.declared.action.Action.{Action}
 use Rattle.php_actions.specs.declared.action.Action.TheVariants.{Stack, Output, Jump}
 use Rattle.php_actions.specs.declared.stack.StackAction.TheVariants.{Push}
 use Rattle.php_actions.specs.declared.output.OutputAction.TheVariants.{Echo, Write}
@@ -21,7 +20,7 @@ use Rattle.php_actions.specs.Start.{first}
 use Rattle.php_code.specs.declared.instr.Instr.{Instr}
 use Rattle.php_code.specs.declared.instr.Instr.TheVariants.{Do, Unless, Go, TickBack}
 use Rattle.php_code.specs.declared.program.Program.{Program}
-use Rattle.php_code.specs.Code.{Place, place, code, served_at}
+use Rattle.php_code.specs.Code.{place, code, served_at}
 
 abbrev pub script_facts : Facts
 script_facts = record {

@@ -1,11 +1,11 @@
 -- A script and its code have the same runs.
-use Rattle.std.proofs.Common.{◌≡◌, ◌≢◌, ℕ, zero, suc, ◌+◌, ◌<◌, ◌≤◌, Bool, true, false, cond, ◌&&◌, List, [], ◌∷◌, ◌++◌, length, Option, Some, None, refl, sym, ap, ◌∙◌, subst, arith, append-nil, append_assoc, length-append}
+use Rattle.std.proofs.Common.{◌≡◌, ℕ, zero, suc, ◌+◌, ◌<◌, ◌≤◌, Bool, true, false, cond, ◌&&◌, List, [], ◌∷◌, ◌++◌, length, Option, Some, None, refl, sym, ap, ◌∙◌, subst, arith, append_assoc, length-append}
 use Rattle.std.specs.Prelude.{slice_get}
 use Rattle.std.proofs.Math.Seq.{get_or-append_seam}
 use Rattle.std.proofs.lemmas.Option.{slice_get-get_or, slice_get_past}
 use Rattle.php_frames.specs.declared.ranges.HandlerRange.{HandlerRange}
 use Rattle.php_frames.specs.declared.completion.Completion.{Completion}
-use Rattle.php_frames.specs.Served.{holds_place, does_serve, handler_from, handler_of}
+use Rattle.php_frames.specs.Served.{holds_place, does_serve, handler_from}
 use Rattle.php_machine.specs.Same.{SameServe, Agree, SameRuns}
 use Rattle.php_machine.proofs.AgreeLemmas.{same_runs_lem}
 use Rattle.php_layers.specs.AgreeLayers.{MeetIn, AgreeIn, EachRelated}
@@ -20,11 +20,11 @@ use Rattle.php_code.specs.declared.program.Function.{Function}
 use Rattle.php_code.specs.Code.{Place, place, decoded, code_in, ranges_in, target_of, range_at, served_at, code_layer, code}
 use Rattle.php_meaning.specs.Slots.{Names, script_names}
 use Rattle.php_meaning.specs.Facts.{facts_of}
-use Rattle.php_meaning.specs.Tasks.{Task, RunItems}
+use Rattle.php_meaning.specs.Tasks.{Task}
 use Rattle.php_meaning.specs.Meaning.{Left, left, function_tasks, served_tasks, tree_layer, tree}
 use Rattle.php_compile.specs.StatementCode.{items_code}
 use Rattle.php_compile.specs.Compiled.{script_function, compiled}
-use Rattle.php_compile.proofs.Stands.{task_code, around, fetch_at, around_at, Lies, Jumps, Via, Stands, Reach, Meant}
+use Rattle.php_compile.proofs.Stands.{around, Lies, Stands, Reach, Meant}
 use Rattle.php_compile.proofs.Follow.{meets_at}
 
 -- ---- what is served

@@ -12,11 +12,11 @@ use Rattle.php_ast.specs.declared.expression.Named.TheVariants as arrow
 use Rattle.php_ast.specs.declared.statement.Stmt.{Stmt}
 use Rattle.php_ast.specs.declared.script.ScriptItem.{ScriptItem}
 use Rattle.php_ast.specs.expression.Parts.{link_with, piece_with}
-use Rattle.php_ast.specs.expression.Tree.{Tree, Items, none, and, plain, Pieces, no_piece}
+use Rattle.php_ast.specs.expression.Tree.{Tree, Items, none, Pieces, no_piece}
 use Rattle.php_ast.specs.expression.View.{Note, view, piece_more, pieces_from, values_from, with_link, with_links, with_suffixes, with_suffix}
-use Rattle.php_ast.specs.statement.Tree.{Sequence, empty, then_also, Statement, Statements, no_statement, and_statement}
+use Rattle.php_ast.specs.statement.Tree.{empty, then_also, Statements, no_statement, and_statement}
 use Rattle.php_ast.specs.statement.View.{statement_view, statements_from, sequence_from}
-use Rattle.php_ast.specs.declaration.Tree.{Item, Script}
+use Rattle.php_ast.specs.declaration.Tree.{Script}
 use Rattle.php_ast.specs.declaration.View.{item_view}
 use Rattle.php_code.specs.declared.instr.Instr.{Instr}
 use Rattle.php_meaning.specs.Slots.{Names}

@@ -1,24 +1,19 @@
 -- What stands for the tasks does what they do.
-use Rattle.std.proofs.Common.{◌≡◌, ℕ, zero, suc, ◌+◌, List, [], ◌∷◌, ◌++◌, length, Option, Some, None, refl, sym, ap, ◌∙◌, subst, arith, append-nil, append_assoc, length-append}
-use Rattle.std.specs.Prelude.{slice_get}
+use Rattle.std.proofs.Common.{◌≡◌, ℕ, zero, suc, ◌+◌, List, [], ◌∷◌, ◌++◌, length, Option, Some, None, refl, sym, ap, ◌∙◌, subst, arith, append-nil, length-append}
 use Rattle.php_frames.specs.declared.ranges.HandlerRange.{HandlerRange}
-use Rattle.php_frames.specs.declared.completion.Completion.{Completion}
 use Rattle.php_actions.specs.declared.action.Action.{Action}
-use Rattle.php_machine.specs.Control.{Fetch, Silent, Act, Branch}
-use Rattle.php_machine.specs.Same.{SameFetch}
-use Rattle.php_layers.specs.Layers.{Layer}
-use Rattle.php_layers.specs.AgreeLayers.{ComesIn, SameLeft, MeetIn}
+use Rattle.php_machine.specs.Control.{Silent, Act}
+use Rattle.php_layers.specs.AgreeLayers.{SameLeft, MeetIn}
 use Rattle.php_code.specs.declared.instr.Instr.{Instr}
 use Rattle.php_code.specs.declared.instr.Instr.TheVariants as instr
 use Rattle.php_code.specs.declared.program.Function.{Function}
-use Rattle.php_code.specs.Code.{Place, place, decoded, code_layer}
-use Rattle.php_ast.specs.declared.operator.Binary.{Binary}
+use Rattle.php_code.specs.Code.{place, code_layer}
 use Rattle.php_ast.specs.declaration.Tree.{Item, of_statement, of_function, of_class, of_interface, of_trait, Script}
-use Rattle.php_ast.specs.expression.Tree.{Enclosure, parentheses, emptiness, exiting}
+use Rattle.php_ast.specs.expression.Tree.{parentheses, emptiness, exiting}
 use Rattle.php_ast.specs.expression.Tree.{Tree, leaf, template, enclosed, listed, exit, exit_empty, static_member, append, index, selected, computed, call, new, new_with, prefix, count, binary, instance_of, instance_of_static, choice, short_choice, assign, yield_nothing, yield_value, yield_pair}
 use Rattle.php_ast.specs.expression.Tree.{Items, none, and, skip, Pieces, no_piece, bytes, value}
 use Rattle.php_ast.specs.expression.View.{Note}
-use Rattle.php_ast.specs.statement.Tree.{Sequence, empty, then_also, Statement, block, blank, inline, expression, echo, globals, statics, unset, constants, jump, throw, if_only, if_else, if_lists, if_else_lists, while, do_while, for, foreach, switch, try_catch, try_finally, declares, Statements, no_statement, and_statement}
+use Rattle.php_ast.specs.statement.Tree.{empty, then_also, Statement, block, blank, inline, expression, echo, globals, statics, unset, constants, jump, throw, if_only, if_else, if_lists, if_else_lists, while, do_while, for, foreach, switch, try_catch, try_finally, declares, Statements, no_statement, and_statement}
 use Rattle.php_value.specs.declared.scalar.Scalar.TheVariants as scalar
 use Rattle.php_actions.specs.declared.action.Action.TheVariants.{Stack, Operator, Output}
 use Rattle.php_actions.specs.declared.stack.StackAction.TheVariants.{Drop}
@@ -29,12 +24,12 @@ use Rattle.php_meaning.specs.Heights.{piece_count}
 use Rattle.php_meaning.specs.Slots.{Names, script_names}
 use Rattle.php_meaning.specs.Forms.{push, tick, leaf_action, binary_action, prefix_action, assigned_form, assign_action}
 use Rattle.php_meaning.specs.Tasks.{Task, Do, Eval, Keys, EvalPieces, EchoItems, Run, Runs, RunItems}
-use Rattle.php_meaning.specs.Expressions.{do_if, right_tasks, enclosed_tasks, assign_tasks}
+use Rattle.php_meaning.specs.Expressions.{do_if, right_tasks, assign_tasks}
 use Rattle.php_meaning.specs.Statements.{item_tasks}
-use Rattle.php_meaning.specs.Meaning.{Left, left, fetched_task, tree_layer, unfolded}
-use Rattle.php_compile.specs.ExpressionCode.{expr_code, do_code, right_code, enclosed_code, assign_code}
+use Rattle.php_meaning.specs.Meaning.{left, fetched_task, tree_layer, unfolded}
+use Rattle.php_compile.specs.ExpressionCode.{expr_code, do_code, right_code, assign_code}
 use Rattle.php_compile.specs.StatementCode.{item_code}
-use Rattle.php_compile.proofs.Stands.{task_code, tasks_code, fetch_at, around_at, Lies, Jumps, Via, Stands, Reach, Meant}
+use Rattle.php_compile.proofs.Stands.{task_code, tasks_code, around_at, Lies, Jumps, Stands, Reach, Meant}
 
 module _ (functions : List Function) (f : ℕ) where
   lies_front : (p : ℕ) (a b : List Instr) (rs : List HandlerRange) → Lies functions f p (a ++ b) rs → Lies functions f p a rs

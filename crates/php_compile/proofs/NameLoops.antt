@@ -1,5 +1,5 @@
 -- What the loops of the walk that numbers variables keep.
-use Rattle.std.proofs.Common.{◌≡◌, ◌≤◌, ◌<◌, ℕ, ◌+◌, List, [], ◌∷◌, ◌++◌, map, take, length, get_or, refl, sym, ◌∙◌, ap}
+use Rattle.std.proofs.Common.{◌≡◌, ◌≤◌, ◌<◌, ℕ, ◌+◌, List, [], ◌∷◌, map, take, length, get_or, refl, ◌∙◌}
 use Rattle.php_ast.specs.declared.expression.Expr.{Expr}
 use Rattle.php_ast.specs.declared.expression.Piece.{Piece}
 use Rattle.php_ast.specs.declared.expression.Piece.TheVariants as piece
@@ -10,12 +10,11 @@ use Rattle.php_ast.specs.declared.expression.Suffix.TheVariants as suffix
 use Rattle.php_ast.specs.declared.expression.Named.TheVariants as arrow
 use Rattle.php_ast.specs.declared.statement.Stmt.{Stmt}
 use Rattle.php_ast.specs.declared.script.ScriptItem.{ScriptItem}
-use Rattle.php_ast.specs.expression.Parts.{link_with, piece_with, suffix_with}
-use Rattle.php_ast.specs.expression.Tree.{Tree, Items, none, and, plain, Pieces, no_piece}
+use Rattle.php_ast.specs.expression.Parts.{link_with, piece_with}
+use Rattle.php_ast.specs.expression.Tree.{Tree, none, Pieces, no_piece}
 use Rattle.php_ast.specs.expression.View.{Note, view, piece_more, pieces_from, values_from, with_link, with_links, with_suffixes, with_suffix}
-use Rattle.php_ast.specs.statement.Tree.{Sequence, empty, then_also, Statement, Statements, no_statement, and_statement}
+use Rattle.php_ast.specs.statement.Tree.{empty, then_also, no_statement, and_statement}
 use Rattle.php_ast.specs.statement.View.{statement_view, statements_from, sequence_from}
-use Rattle.php_ast.specs.declaration.Tree.{Item, Script}
 use Rattle.php_ast.specs.declaration.View.{item_view}
 use Rattle.php_meaning.specs.Slots.{Names, names_of, names_of_pieces, names_of_items, names_of_statement, names_of_statements, names_of_item, names_of_script}
 use Rattle.php_compile.specs.Parts.{piece_names, link_names}

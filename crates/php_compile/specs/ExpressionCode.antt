@@ -1,5 +1,5 @@
 -- The code of expressions: that of the tasks that they unfold to, one after the other.
-use Rattle.std.specs.Prelude.{ℕ, List, [], ◌∷◌, ◌++◌, Option, Some, None}
+use Rattle.std.specs.Prelude.{List, [], ◌∷◌, ◌++◌, Option, Some, None}
 use Rattle.php_value.specs.declared.scalar.Scalar.TheVariants as scalar
 use Rattle.php_ast.specs.expression.Tree.{Enclosure, parentheses, emptiness, exiting}
 use Rattle.php_ast.specs.expression.Tree.{Tree, leaf, template, enclosed, listed, exit, exit_empty, static_member, append, index, selected, computed, call, new, new_with, prefix, count, binary, instance_of, instance_of_static, choice, short_choice, assign, yield_nothing, yield_value, yield_pair}

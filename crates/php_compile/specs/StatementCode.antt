@@ -1,6 +1,6 @@
 -- The code of statements.
 use Rattle.std.specs.Prelude.{ℕ, List, [], ◌∷◌, ◌++◌}
-use Rattle.php_ast.specs.statement.Tree.{Sequence, empty, then_also, Statement, block, inline, expression, echo, Statements, no_statement, and_statement}
+use Rattle.php_ast.specs.statement.Tree.{empty, then_also, Statement, block, inline, expression, echo, Statements, no_statement, and_statement}
 use Rattle.php_ast.specs.declaration.Tree.{Item, of_statement, Script}
 use Rattle.php_ast.specs.expression.View.{Note}
 use Rattle.php_actions.specs.declared.action.Action.TheVariants.{Stack, Output}

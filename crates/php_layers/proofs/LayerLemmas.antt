@@ -1,5 +1,5 @@
 -- Where places in functions agree, the controls that are made of them do.
-use Rattle.std.proofs.Common.{◌≡◌, ℕ, zero, suc, List, [], ◌∷◌, Option, Some, None, refl, sym, ap, ◌∙◌, subst}
+use Rattle.std.proofs.Common.{◌≡◌, ℕ, zero, suc, List, [], ◌∷◌, Option, Some, None, refl, sym, ap, subst}
 use Rattle.php_machine.specs.Control.{Fetch, Silent, Act, Branch, Control}
 use Rattle.php_machine.specs.Same.{Comes, SameFetch, SameServe, Meet, Agree}
 use Rattle.php_layers.specs.Layers.{Layer, fetched_over, served_over, layered, serve_layers}

@@ -1,5 +1,5 @@
 -- Constants that no script defines.
-use Rattle.std.specs.Prelude.{ℕ, nat_eq, true, false, cond, List, Option, Some, None, codes}
+use Rattle.std.specs.Prelude.{ℕ, true, false, cond, List, Option, Some, None, codes}
 use Rattle.std.specs.Str.{str_eq_ignore_ascii_case}
 use Rattle.php_value.specs.declared.scalar.Scalar.{Scalar}
 use Rattle.php_value.specs.declared.scalar.Scalar.TheVariants as scalar

@@ -8,8 +8,8 @@ use Rattle.php_ast.specs.declared.operator.Prefix.TheVariants as to
 use Rattle.php_ast.specs.declared.operator.Assign.TheVariants as setting
 use Rattle.php_ast.specs.declared.operator.Magic.TheVariants as magic_word
 use Rattle.php_ast.specs.expression.Tree.{Leaf, variable, int, string, name, magic, parentheses, by_value}
-use Rattle.php_ast.specs.expression.Tree.{Tree, leaf, template, enclosed, prefix, binary, assign, Items, none, and, plain, Pieces, no_piece, bytes, value}
-use Rattle.php_ast.specs.statement.Tree.{Sequence, empty, then_also, Statement, inline, expression, echo}
+use Rattle.php_ast.specs.expression.Tree.{Tree, leaf, template, enclosed, prefix, binary, assign, none, and, plain, no_piece, bytes, value}
+use Rattle.php_ast.specs.statement.Tree.{empty, then_also, Statement, inline, expression, echo}
 use Rattle.php_ast.specs.declaration.Tree.{of_statement, Script}
 use Rattle.php_ast.specs.expression.View.{Note}
 use Rattle.php_actions.specs.declared.ending.Ending.{Ending}

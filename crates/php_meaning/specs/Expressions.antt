@@ -1,6 +1,6 @@
 -- What the tasks of expressions unfold to. Of a form that isn't told yet only those parts are done that the
 -- program does on its way, or none.
-use Rattle.std.specs.Prelude.{ℕ, List, [], ◌∷◌, Option, Some, None}
+use Rattle.std.specs.Prelude.{List, [], ◌∷◌, Option, Some, None}
 use Rattle.php_value.specs.declared.scalar.Scalar.TheVariants as scalar
 use Rattle.php_ast.specs.expression.Tree.{Enclosure, parentheses, emptiness, exiting}
 use Rattle.php_ast.specs.expression.Tree.{Tree, leaf, template, enclosed, listed, exit, exit_empty, static_member, append, index, selected, computed, call, new, new_with, prefix, count, binary, instance_of, instance_of_static, choice, short_choice, assign, yield_nothing, yield_value, yield_pair}

@@ -1,5 +1,5 @@
 -- The facts of a script.
-use Rattle.std.specs.Prelude.{ℕ, ◌+◌, false, List, [], ◌∷◌, None}
+use Rattle.std.specs.Prelude.{ℕ, ◌+◌, false, [], ◌∷◌, None}
 use Rattle.php_ast.specs.declaration.Tree.{Script}
 use Rattle.php_ast.specs.expression.View.{Note}
 use Rattle.php_actions.specs.declared.facts.Facts.{Facts}

@@ -1,5 +1,5 @@
 -- Which actions forms of the script stand for.
-use Rattle.std.specs.Prelude.{ℕ, nat_eq, Bool, true, false, cond, pos, List, [], ◌∷◌, Option, Some, None}
+use Rattle.std.specs.Prelude.{ℕ, Bool, true, false, cond, pos, List, [], Option, Some, None}
 use Rattle.php_value.specs.declared.op.Op.{Op}
 use Rattle.php_value.specs.declared.op.Op.TheVariants as op
 use Rattle.php_value.specs.declared.scalar.Scalar.{Scalar}
@@ -8,11 +8,10 @@ use Rattle.php_ast.specs.declared.operator.Binary.{Binary}
 use Rattle.php_ast.specs.declared.operator.Binary.TheVariants as binary
 use Rattle.php_ast.specs.declared.operator.Prefix.{Prefix}
 use Rattle.php_ast.specs.declared.operator.Prefix.TheVariants as prefix
-use Rattle.php_ast.specs.declared.operator.Assign.{Assign}
 use Rattle.php_ast.specs.declared.operator.Assign.TheVariants as setting
 use Rattle.php_ast.specs.declared.operator.Magic.{Magic}
 use Rattle.php_ast.specs.declared.operator.Magic.TheVariants as magic_word
-use Rattle.php_ast.specs.expression.Tree.{Leaf, variable, int, string, name, magic, Setting, by_value, by_reference}
+use Rattle.php_ast.specs.expression.Tree.{Leaf, variable, int, string, name, magic, Setting, by_value}
 use Rattle.php_ast.specs.expression.Tree.{Tree, leaf}
 use Rattle.php_ast.specs.expression.View.{Note}
 use Rattle.php_actions.specs.declared.action.Action.{Action}

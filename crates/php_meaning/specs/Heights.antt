@@ -1,10 +1,10 @@
 -- How many temporaries stand at most. Each function takes how many stand before, and the greatest number so
 -- far.
-use Rattle.std.specs.Prelude.{ℕ, zero, ◌+◌, max, Bool, Option, Some, None}
+use Rattle.std.specs.Prelude.{ℕ, zero, ◌+◌, max, Option, Some, None}
 use Rattle.php_ast.specs.expression.Tree.{Enclosure, parentheses, emptiness, exiting}
 use Rattle.php_ast.specs.expression.Tree.{Tree, leaf, template, enclosed, listed, exit, exit_empty, static_member, append, index, selected, computed, call, new, new_with, prefix, count, binary, instance_of, instance_of_static, choice, short_choice, assign, yield_nothing, yield_value, yield_pair}
 use Rattle.php_ast.specs.expression.Tree.{Items, none, and, skip, Pieces, no_piece, bytes, value}
-use Rattle.php_ast.specs.statement.Tree.{Sequence, empty, then_also, Statement, block, inline, expression, echo, Statements, no_statement, and_statement}
+use Rattle.php_ast.specs.statement.Tree.{empty, then_also, Statement, block, expression, echo, Statements, no_statement, and_statement}
 use Rattle.php_ast.specs.declaration.Tree.{Item, of_statement, Script}
 use Rattle.php_ast.specs.expression.View.{Note}
 use Rattle.php_actions.specs.declared.action.Action.{Action}

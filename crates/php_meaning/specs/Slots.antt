@@ -3,10 +3,10 @@
 use Rattle.std.specs.Prelude.{ℕ, zero, nat_eq, Bool, cond, List, [], ◌∷◌, ◌++◌, Option, Some, None, if◌then◌else◌, codes}
 use Rattle.std.specs.List.{list_any, position}
 use Rattle.std.specs.Cmp.Lexicographic.{pointwise}
-use Rattle.php_ast.specs.expression.Tree.{Leaf, variable, int, string, name, magic, Enclosure, parentheses, emptiness, exiting}
+use Rattle.php_ast.specs.expression.Tree.{Leaf, variable, int, string, name, magic}
 use Rattle.php_ast.specs.expression.Tree.{Tree, leaf, template, enclosed, listed, exit, exit_empty, static_member, append, index, selected, computed, call, new, new_with, prefix, count, binary, instance_of, instance_of_static, choice, short_choice, assign, yield_nothing, yield_value, yield_pair}
 use Rattle.php_ast.specs.expression.Tree.{Items, none, and, skip, Pieces, no_piece, bytes, value}
-use Rattle.php_ast.specs.statement.Tree.{Sequence, empty, then_also, Statement, block, inline, expression, echo, Statements, no_statement, and_statement}
+use Rattle.php_ast.specs.statement.Tree.{empty, then_also, Statement, block, expression, echo, Statements, no_statement, and_statement}
 use Rattle.php_ast.specs.declaration.Tree.{Item, of_statement, Script}
 use Rattle.php_ast.specs.expression.View.{Note}
 

@@ -3,7 +3,6 @@ use Rattle.std.proofs.lemmas.Result.{IfOk-weaker}
 use Rattle.php_ast.specs.declaration.View.{script_view}
 use Rattle.php_actions.specs.Plan.{rules}
 use Rattle.php_machine.specs.Same.{SameRuns}
-use Rattle.php_code.specs.declared.program.Program.{Program}
 use Rattle.php_code.specs.Code.{code}
 use Rattle.php_meaning.specs.Facts.{facts_of}
 use Rattle.php_meaning.specs.Meaning.{tree}

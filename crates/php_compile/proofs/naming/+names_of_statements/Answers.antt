@@ -1,4 +1,4 @@
-use Rattle.std.proofs.Common.{map, length, ◌≤◌, arith}
+use Rattle.std.proofs.Common.{length, ◌≤◌, arith}
 use Rattle.php_compile.proofs.Weights.{same, statement_weight, part_weight}
 use Rattle.php_compile.proofs.NameLoops.{statements_kept, statements_whole}
 use Rattle.php_compile.proofs.naming.+names_of_statements.Goals as goal
