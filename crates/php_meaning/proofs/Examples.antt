@@ -1,0 +1,37 @@
+-- What the examples come to: each line is computed.
+use Rattle.std.proofs.Common.{refl}
+use Rattle.std.specs.Fmt.{digits}
+use Rattle.php_entries.specs.Changes.{set_value, append_value, remove_key, pop_entry}
+use Rattle.php_memdef.specs.Holders.{holders, object_holders}
+use Rattle.php_memdef.specs.Copies.{copied}
+use Rattle.php_memdef.specs.Places.{find_place, walk}
+use Rattle.php_memdef.specs.Reading.{reading}
+use Rattle.php_memdef.specs.Temporaries.{enter, leave, push, push_array, pass, turn, drop_top, copy, settle}
+use Rattle.php_memdef.specs.Writes.{assign, shed}
+use Rattle.php_memdef.specs.Releases.{fall}
+use Rattle.php_actions.specs.Effect.{effect}
+use Rattle.php_actions.specs.Frames.{landed, unserved}
+use Rattle.php_actions.specs.Plan.{plan, truth}
+use Rattle.php_meaning.specs.Constants.{constant_of}
+use Rattle.php_meaning.specs.Examples.{MeaningExamples}
+
+pub meaning_examples : MeaningExamples
+unfolding digits set_value append_value remove_key pop_entry holders object_holders copied find_place walk reading enter leave push push_array pass turn drop_top copy settle assign shed fall effect landed unserved plan truth constant_of
+meaning_examples = record {
+  nothing = refl;
+  writes_bytes = refl;
+  assigns_a_sum = refl;
+  reads_from_the_left = refl;
+  assigns_twice = refl;
+  fills_a_template = refl;
+  casts = refl;
+  prints_one = refl;
+  knows_its_line = refl;
+  missing_variable_is_null = refl;
+  constants_in_any_case = refl;
+  undefined_constant = refl;
+  no_this = refl;
+  division_by_zero = refl;
+  needs_a_float = refl;
+  is_cut = refl;
+}

@@ -1,0 +1,10 @@
+pub mod Slots
+pub mod Constants
+pub mod Forms
+pub mod Heights
+pub mod Facts
+pub mod Tasks
+pub mod Expressions
+pub mod Statements
+pub mod Meaning
+pub mod Examples
