@@ -1,0 +1,5 @@
+mod Roles
+mod Moves
+mod Bridge
+mod Fronts
+mod Ends

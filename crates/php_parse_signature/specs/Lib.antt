@@ -1,0 +1,4 @@
+pub mod Answer
+pub mod Flat
+pub mod PartView
+pub mod Walk
