@@ -1,5 +1,5 @@
 -- What stands behind a parameter.
-use Rattle.std.proofs.Common.{◌≡◌, ◌≢◌, ℕ, suc, Bool, true, false, Option, Some, None, List, [], ◌∷◌, refl, ◌∙◌, ap}
+use Rattle.std.proofs.Common.{◌≡◌, ◌≢◌, ℕ, suc, Bool, true, false, Option, Some, None, List, [], ◌∷◌, refl, ◌∙◌, ap, arith}
 use Rattle.std.specs.Prelude.{nat_lt}
 use Rattle.php_token.specs.declared.kind.Keyword.TheVariants as word
 use Rattle.php_token.specs.declared.kind.Punct.TheVariants as mark
@@ -16,17 +16,19 @@ use Rattle.php_parse_body.proofs.Wholes.{over}
 use Rattle.php_parse_signature.specs.Answer.{behind, valued, ValueRests}
 use Rattle.php_parse_signature.specs.Walk.{short, stepped, walk}
 use Rattle.php_parse_signature.proofs.Bridge.{bridge, carried}
-use Rattle.php_parse_signature.proofs.Moves.{sticks}
+use Rattle.php_parse_signature.proofs.Moves.{go, sticks}
 
 pub comma_read : (n : ℕ) (params : Params) (p : Param Nothing) (value : Option Form) (w : List Symbol)
     → walk (suc n) (behind params p value) (punct mark.Comma ∷ w) ≡ walk (suc n) (due_param (then_also params (valued p value))) w
-comma_read n params p None w = refl
-comma_read n params p (Some e) w = refl
+comma_read n params p None w = go (suc n) (past_param params p) (due_param (then_also params p)) (punct mark.Comma) w refl (omega arith)
+comma_read n params p (Some e) w =
+    go (suc n) (in_default params p (holds e [])) (due_param (then_also params (with_default p e))) (punct mark.Comma) w refl (omega arith)
 
 pub paren_read : (n : ℕ) (params : Params) (p : Param Nothing) (value : Option Form) (w : List Symbol)
     → walk (suc n) (behind params p value) (punct mark.RightParen ∷ w) ≡ walk (suc n) (past_params (then_also params (valued p value))) w
-paren_read n params p None w = refl
-paren_read n params p (Some e) w = refl
+paren_read n params p None w = go (suc n) (past_param params p) (past_params (then_also params p)) (punct mark.RightParen) w refl (omega arith)
+paren_read n params p (Some e) w =
+    go (suc n) (in_default params p (holds e [])) (past_params (then_also params (with_default p e))) (punct mark.RightParen) w refl (omega arith)
 
 -- ---- where neither stands there
 

@@ -1,5 +1,9 @@
 mod Roles
+mod Lists
 mod Moves
+mod Values
+mod Wholes
 mod Bridge
-mod Fronts
+mod Defaults
+mod Heads
 mod Ends

@@ -162,13 +162,16 @@ abbrev pub spell_front : Param Nothing → List Symbol → List Symbol
 spell_front p w =
     spell_declared p.declared (symbol_if p.is_reference (punct mark.Ampersand) (symbol_if p.is_variadic (punct mark.Ellipsis) (spell_dollar p.name w)))
 
+abbrev pub front_of : Declared → Front → List ℕ → Param Nothing
+front_of declared r text = param_of declared r.is_reference r.is_variadic (named_here text)
+
 pub record FoundFront (tokens : List Token) (at : ℕ) (r : Front) : Type 0 where
   pub declared : Declared
   pub text : List ℕ
   pub typed : optional type_view r.declared ≡ noted_declared (notes_of tokens) at declared
-  pub named : name_view r.name ≡ noted_name (notes_of tokens) (at + size_declared declared + size_if r.is_reference + size_if r.is_variadic) (named_here text)
-  pub sized : at + size_declared declared + size_if r.is_reference + size_if r.is_variadic + 1 ≡ r.next
-  pub spelled : rest tokens at ≡ spell_front (param_of declared r.is_reference r.is_variadic (named_here text)) (rest tokens r.next)
+  pub named : name_view r.name ≡ noted_name (notes_of tokens) (at + size_marks (front_of declared r text)) (named_here text)
+  pub sized : at + size_marks (front_of declared r text) + 1 ≡ r.next
+  pub spelled : rest tokens at ≡ spell_front (front_of declared r text) (rest tokens r.next)
   pub within : r.next ≤ length tokens
 
 -- Where a parameter may be absent, no `)` stands here.

@@ -8,7 +8,7 @@ ghost use Rattle.php_parse_signature.specs.Answer.{AnswersDeclared, AnswersFront
 
 use crate::look::{part_at, sees_reference, sees_variadic};
 use crate::part::Part;
-use crate::read::{Front, Marked, Typed};
+use crate::read::{Entry, Front, Marked, Typed};
 use crate::types::{type_at, type_kind_at};
 use php_ast::Name;
 use php_lex::Tokens;
@@ -26,10 +26,10 @@ fn declared(reader: &Reader, at: usize) -> Result<Typed, Stop>
             next: at,
         });
     };
-    let found = type_at(reader, at, kind)?;
+    let Entry { item, next } = type_at(reader, at, kind)?;
     Ok(Typed {
-        declared: Some(found.item),
-        next: found.next,
+        declared: Some(item),
+        next,
     })
 }
 

@@ -42,10 +42,14 @@ fn value(reader: &Reader, at: usize) -> Result<Valued, Stop>
             next: at,
         });
     }
-    let read = default(reader, at + 1)?;
+    let Read {
+        expr,
+        edge: _,
+        next,
+    } = default(reader, at + 1)?;
     Ok(Valued {
-        next: read.next,
-        default: Some(read.expr),
+        default: Some(expr),
+        next,
     })
 }
 

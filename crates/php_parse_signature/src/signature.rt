@@ -6,7 +6,7 @@ ghost use Rattle.php_parse_signature.specs.Answer.{AnswersNone, AnswersResult, A
 use crate::look::part_at;
 use crate::params::params;
 use crate::part::Part;
-use crate::read::{ReadSignature, Typed};
+use crate::read::{Entry, ReadSignature, Typed};
 use crate::types::{type_at, type_kind_at};
 use php_ast::Signature;
 use php_lex::Tokens;
@@ -42,10 +42,10 @@ fn result_type(reader: &Reader, at: usize) -> Result<Typed, Stop>
     let Some(kind) = type_kind_at(reader.tokens, place) else {
         return Err(Stop::Syntax(place));
     };
-    let found = type_at(reader, place, kind)?;
+    let Entry { item, next } = type_at(reader, place, kind)?;
     Ok(Typed {
-        declared: Some(found.item),
-        next: found.next,
+        declared: Some(item),
+        next,
     })
 }
 
