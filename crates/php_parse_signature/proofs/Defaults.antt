@@ -9,9 +9,9 @@ use Rattle.php_reader.specs.declared.reader.Reader.{Reader}
 use Rattle.php_reader.specs.declared.fail.Stop.{Stop}
 use Rattle.php_reader.specs.declared.fail.Stop.TheVariants.{Syntax, TooDeep, NoMemory}
 use Rattle.php_reader.specs.Seen.{rest}
-use Rattle.php_parse_body.specs.declared.read.Read.{Read}
-use Rattle.php_parse_body.specs.Walk as inner
-use Rattle.php_parse_body.specs.Answer as expression
+use Rattle.php_parse_operands.specs.declared.read.Read.{Read}
+use Rattle.php_parse_operands.specs.Walk as inner
+use Rattle.php_parse_operands.specs.Answer as expression
 use Rattle.php_parse_signature.specs.Answer.{Fails, AnswersDefault}
 use Rattle.php_parse_signature.specs.Walk.{walk, Leads, Halts}
 use Rattle.php_parse_signature.proofs.Bridge.{bridge, carried}

@@ -29,8 +29,8 @@ use Rattle.php_reader.specs.declared.reader.Reader.{Reader}
 use Rattle.php_reader.specs.declared.fail.Stop.{Stop}
 use Rattle.php_reader.specs.declared.fail.Stop.TheVariants.{Syntax, TooDeep, NoMemory}
 use Rattle.php_reader.specs.Seen.{Shows, rest, test}
-use Rattle.php_parse_body.specs.declared.read.Read.{Read}
-use Rattle.php_parse_body.specs.Walk.{Rests}
+use Rattle.php_parse_operands.specs.declared.read.Read.{Read}
+use Rattle.php_parse_operands.specs.Walk.{Rests}
 use Rattle.php_parse_signature.specs.declared.read.Entry.{Entry}
 use Rattle.php_parse_signature.specs.declared.read.Marked.{Marked}
 use Rattle.php_parse_signature.specs.declared.read.Typed.{Typed}

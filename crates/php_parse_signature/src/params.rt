@@ -12,7 +12,7 @@ use php_ast::{Expr, Param};
 use php_parse_body::{Read, read_expression};
 use php_reader::limit::LEAST_POWER;
 use php_reader::look::{ends_with, sees_right_paren};
-use php_reader::sign::Closer;
+use php_reader::role::Closer;
 use php_reader::{Reader, Stop};
 use sqlite_items::Items;
 
