@@ -2,7 +2,9 @@ mod Roles
 mod Lists
 mod Moves
 mod Values
+mod Walked
 mod Wholes
+mod Begun
 mod Bridge
 mod Defaults
 mod Heads
