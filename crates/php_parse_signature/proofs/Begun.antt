@@ -1,5 +1,5 @@
 -- What the machine of signatures has read begins the spelling of a proper signature.
-use Rattle.std.proofs.Common.{◌≡◌, ℕ, Bool, true, false, Option, Some, None, List, [], ◌∷◌, ◌++◌, length, refl, sym, ◌∙◌, ap, subst, append_assoc}
+use Rattle.std.proofs.Common.{◌≡◌, Bool, true, false, Option, Some, None, List, [], ◌∷◌, ◌++◌, refl, sym, ◌∙◌, ap, subst, append_assoc}
 use Rattle.std.proofs.lemmas.List.{append-nil}
 use Rattle.php_token.specs.declared.kind.Keyword.TheVariants as word
 use Rattle.php_token.specs.declared.kind.Punct.TheVariants as mark
@@ -10,16 +10,14 @@ use Rattle.php_ast.specs.statement.Tree.{empty, then_also}
 use Rattle.php_ast.specs.statement.Spelling.{separator, commas, symbol_if, spell_value}
 use Rattle.php_ast.specs.statement.Proper.{Each, IfAny, is_empty}
 use Rattle.php_ast.specs.declaration.Tree.{Param, Signature}
-use Rattle.php_ast.specs.declaration.Spelling.{spell_type, spell_declared, spell_param, spell_signature}
+use Rattle.php_ast.specs.declaration.Spelling.{spell_declared, spell_param, spell_signature}
 use Rattle.php_ast.specs.declaration.Proper.{IsProperParam, IsProperSignature}
 use Rattle.php_grammar.specs.expression.Role as role
 use Rattle.php_grammar.specs.expression.Role.{Continuation, closes, continuation, is_paren, is_right_paren, is_colon}
-use Rattle.php_grammar.specs.expression.Machine.{Nothing, Form, OpenForms, instance_of_open, State, expects, past_static, past_yield, pick, advance, halt, halt_yield, is_last, missing_end, Reading, read, read_from, or_halt}
-use Rattle.php_grammar.specs.expression.Laws.{BeginsWith}
-use Rattle.php_grammar.specs.Run.{either, if_some, if_nothing, whole_before, through_expression}
+use Rattle.php_grammar.specs.expression.Machine.{Nothing, Form, OpenForms, instance_of_open, State, expects, past_static, past_yield, pick, advance, halt, halt_yield, is_last, missing_end, read, read_from, or_halt}
+use Rattle.php_grammar.specs.Run.{either, if_some, if_nothing, whole_before}
 use Rattle.php_grammar.specs.statement.Role.{Ending, closer, as_word, no_ending, ending_of, ending, is_assign}
-use Rattle.php_grammar.specs.statement.Machine.{named_here}
-use Rattle.php_grammar.specs.declaration.SignatureMachine.{ParamRole, at_base, at_variable, at_question, at_reference, at_variadic, at_other, param_role, Params, Declared, SignatureState, due_signature, due_param, past_question, past_type, past_reference, past_variadic, past_param, in_default, past_params, due_result, past_result_question, past_signature, type_of, param_of, with_default, signature_of, marked_step, reference_step, variadic_step, param_step, question_step, param_end, result_step, nullable_result_step, advance_signature, closing, halt_signature}
+use Rattle.php_grammar.specs.declaration.SignatureMachine.{ParamRole, at_base, at_variable, at_question, at_reference, at_variadic, at_other, param_role, Params, Declared, SignatureState, due_signature, due_param, past_question, past_type, past_reference, past_variadic, past_param, in_default, past_params, due_result, past_result_question, past_signature, with_default, marked_step, reference_step, variadic_step, param_step, question_step, param_end, result_step, nullable_result_step, advance_signature, closing, halt_signature}
 use Rattle.php_grammar.proofs.expression.Appended.{spell_append}
 use Rattle.php_grammar.proofs.expression.LawProofs.{reading_begins}
 use Rattle.php_grammar.proofs.expression.Roles.{closer_symbol, Says, continuation_says}
@@ -27,6 +25,7 @@ use Rattle.php_parse_body.proofs.Walked.{halt_unread}
 use Rattle.php_parse_body.proofs.Wholes.{cancel, semicolon, semicolon_none}
 use Rattle.php_parse_signature.specs.Answer.{spell_front}
 use Rattle.php_parse_signature.proofs.Roles.{RoleSays, role_says}
+use Rattle.php_parse_signature.proofs.Tokens.{paren_is, end_is, colon_is, assign_is}
 
 -- ---- the value of a parameter
 
@@ -208,10 +207,6 @@ end_on params p (closer _) t f says proper own h = tt
 end_on params p as_word t f says proper own h = tt
 end_on params p no_ending t f says proper own h = tt
 
-assign_is : (t : Symbol) → is_assign t ≡ true → t ≡ punct mark.Assign
-assign_is (punct mark.Assign) h = refl
-assign_is _ h = cc
-
 inside_none : Inside (expects []) []
 inside_none = record { reads = λ z. refl }
 
@@ -245,20 +240,8 @@ value_on params p None m u t f is proper i h = value_ended params p (whole_befor
 
 -- ---- all states
 
-paren_is : (t : Symbol) → is_right_paren t ≡ true → t ≡ punct mark.RightParen
-paren_is (punct mark.RightParen) h = refl
-paren_is _ h = cc
-
-open_is : (t : Symbol) → is_paren t ≡ true → t ≡ punct mark.LeftParen
-open_is (punct mark.LeftParen) h = refl
-open_is _ h = cc
-
-colon_is : (t : Symbol) → is_colon t ≡ true → t ≡ punct mark.Colon
-colon_is (punct mark.Colon) h = refl
-colon_is _ h = cc
-
 open_on : (b : Bool) (t : Symbol) (f : List Symbol → List Symbol) → is_paren t ≡ b → ((z : List Symbol) → f z ≡ z) → BegunIf (pick b (Some (due_param empty)) None) (with_one f t)
-open_on true t f is h = (tt, λ z. h (t ∷ z) ∙ ap (λ y. y ∷ z) (open_is t is))
+open_on true t f is h = (tt, λ z. h (t ∷ z) ∙ ap (λ y. y ∷ z) (paren_is t is))
 open_on false t f is h = tt
 
 colon_on : (b : Bool) (params : Params) (t : Symbol) (f : List Symbol → List Symbol) → is_colon t ≡ b → AreProperParams params → ((z : List Symbol) → f z ≡ closed_params params z)
@@ -268,7 +251,7 @@ colon_on false params t f is proper h = tt
 
 due_on : (b : Bool) (params : Params) (o : Option SignatureState) (t : Symbol) (f : List Symbol → List Symbol) → is_right_paren t ≡ b → AreProperParams params
     → ((z : List Symbol) → f z ≡ opened_params params z) → BegunIf o (with_one f t) → BegunIf (pick b (pick (is_empty params) (Some (past_params params)) None) o) (with_one f t)
-due_on true empty o t f is proper h other = (tt, λ z. h (t ∷ z) ∙ ap (λ y. punct mark.LeftParen ∷ y ∷ z) (paren_is t is))
+due_on true empty o t f is proper h other = (tt, λ z. h (t ∷ z) ∙ ap (λ y. punct mark.LeftParen ∷ y ∷ z) (end_is t is))
 due_on true (then_also params p) o t f is proper h other = tt
 due_on false params o t f is proper h other = other
 

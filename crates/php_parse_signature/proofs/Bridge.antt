@@ -1,18 +1,17 @@
 -- From the machine of expressions to that of signatures: the value of a parameter is read as any expression is, one level
 -- deeper.
-use Rattle.std.proofs.Common.{◌≡◌, ℕ, suc, ◌+◌, ◌-◌, Bool, true, false, Option, Some, None, List, [], ◌∷◌, ◌++◌, refl, sym, ◌∙◌, ap, arith, ltb-true, ltb-false}
+use Rattle.std.proofs.Common.{◌≡◌, ℕ, suc, ◌+◌, Bool, true, false, Option, Some, None, List, [], ◌∷◌, ◌++◌, refl, sym, ◌∙◌, ap, arith, ltb-true, ltb-false}
 use Rattle.std.specs.Prelude.{nat_lt}
 use Rattle.std.proofs.lemmas.Bool.{lt-ltb, le-ltb}
-use Rattle.php_token.specs.Token.{Token}
 use Rattle.php_ast.specs.Symbol.{Symbol}
 use Rattle.php_ast.specs.declaration.Tree.{Param, Signature}
 use Rattle.php_ast.specs.statement.Tree.{then_also}
-use Rattle.php_grammar.specs.Run.{either, if_some, if_nothing, whole_before, around_expression}
-use Rattle.php_grammar.specs.expression.Machine.{Nothing, Form, OpenForms, instance_of_open, State, expects, holds, past_static, past_yield, advance, halt, halt_yield, is_last, missing_end}
+use Rattle.php_grammar.specs.Run.{either, if_some, if_nothing, whole_before}
+use Rattle.php_grammar.specs.expression.Machine.{Nothing, Form, OpenForms, instance_of_open, State, past_static, past_yield, advance, halt, halt_yield, is_last, missing_end}
 use Rattle.php_grammar.specs.expression.Depth.{depth_at}
 use Rattle.php_grammar.specs.TooDeep.{depth_inside}
 use Rattle.php_grammar.specs.statement.Role.{ending}
-use Rattle.php_grammar.specs.declaration.SignatureMachine.{Params, SignatureState, in_default, with_default, with_param, closing, param_end, halt_signature}
+use Rattle.php_grammar.specs.declaration.SignatureMachine.{Params, in_default, with_default, with_param, closing, param_end, halt_signature}
 use Rattle.php_parse_operands.specs.Walk as inner
 use Rattle.php_parse_body.proofs.Walked.{halt_unread}
 use Rattle.php_parse_signature.specs.Walk.{Outcome, short, deep, outcome, outcome_of, stepped, walk}

@@ -1,9 +1,9 @@
 -- The value of a parameter, from what the parser of expressions answers.
-use Rattle.std.proofs.Common.{◌≡◌, ◌≤◌, ℕ, suc, ◌-◌, true, false, Result, Ok, Err, List, [], refl, sym, ◌∙◌, ap, arith}
+use Rattle.std.proofs.Common.{◌≤◌, ℕ, ◌-◌, true, false, Result, Ok, Err, List, [], sym, ◌∙◌, ap, arith}
 use Rattle.php_token.specs.Token.{Token}
 use Rattle.php_ast.specs.Symbol.{Symbol}
 use Rattle.php_ast.specs.declaration.Tree.{Param}
-use Rattle.php_grammar.specs.expression.Machine.{Nothing, Form, State, expects, holds}
+use Rattle.php_grammar.specs.expression.Machine.{Nothing, Form, expects, holds}
 use Rattle.php_grammar.specs.declaration.SignatureMachine.{Params, in_default}
 use Rattle.php_reader.specs.declared.reader.Reader.{Reader}
 use Rattle.php_reader.specs.declared.fail.Stop.{Stop}
@@ -13,7 +13,7 @@ use Rattle.php_parse_operands.specs.declared.read.Read.{Read}
 use Rattle.php_parse_operands.specs.Walk as inner
 use Rattle.php_parse_operands.specs.Answer as expression
 use Rattle.php_parse_signature.specs.Answer.{Fails, AnswersDefault}
-use Rattle.php_parse_signature.specs.Walk.{walk, Leads, Halts}
+use Rattle.php_parse_signature.specs.Walk.{Leads, Halts}
 use Rattle.php_parse_signature.proofs.Bridge.{bridge, carried}
 use Rattle.php_parse_signature.proofs.Moves.{nested, nested_halts}
 

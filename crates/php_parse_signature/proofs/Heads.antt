@@ -1,5 +1,5 @@
 -- A parameter before its value, in the machine of signatures.
-use Rattle.std.proofs.Common.{◌≡◌, ◌≢◌, ◌≤◌, ℕ, suc, ◌+◌, Bool, true, false, Option, Some, None, List, [], ◌∷◌, refl, sym, ◌∙◌, ap, subst, arith}
+use Rattle.std.proofs.Common.{◌≡◌, ◌≢◌, ◌≤◌, ℕ, suc, Bool, true, false, Option, Some, None, List, [], ◌∷◌, refl, sym, ◌∙◌, ap, subst, arith}
 use Rattle.php_token.specs.Token.{Token}
 use Rattle.php_token.specs.declared.kind.Keyword.TheVariants as word
 use Rattle.php_token.specs.declared.kind.Punct.TheVariants as mark
@@ -172,7 +172,7 @@ front_none n params (Some d) false false t w h begin =
     sticks n (past_type params (Some d)) t w (marked_none params (Some d) (param_role t) h.no_variable (h.no_variadic refl) (h.no_reference refl refl))
 front_none n params None false false t w h begin =
     sticks n (due_param params) t w (due_none (is_right_paren t) (is_empty params) params (param_step params (param_role t)) (begin refl refl refl)
-        (param_none params (param_role t) h.no_variable (h.no_variadic refl) (h.no_reference refl refl) (h.no_type refl refl refl)))
+    (param_none params (param_role t) h.no_variable (h.no_variadic refl) (h.no_reference refl refl) (h.no_type refl refl refl)))
     ∙ due_short params (t ∷ w)
 
 front_short : (n : ℕ) (params : Params) (declared : Declared) (r v : Bool) (w : List Symbol) → Stuck declared r v (head_role w)
@@ -264,9 +264,9 @@ front_fails tokens at r a b (Syntax k) d x y lacks room low = λ params begin.
     } in
     record {
       halts = nested_halts false low (λ n is. ap (walk (suc n) (due_param params)) whole_is
-              ∙ unnamed n params d.form a.stands b.stands (rest tokens b.next) h
-              (λ none f g. subst (MayBegin params) (undeclared d.form (rest tokens at) (rest tokens r.next) d.spelled none ∙ d_plain f ∙ x_plain g) begin)
-              ∙ ap (λ j. short (rest tokens j)) (sym lacks.0));
+          ∙ unnamed n params d.form a.stands b.stands (rest tokens b.next) h
+          (λ none f g. subst (MayBegin params) (undeclared d.form (rest tokens at) (rest tokens r.next) d.spelled none ∙ d_plain f ∙ x_plain g) begin)
+          ∙ ap (λ j. short (rest tokens j)) (sym lacks.0));
       ahead = omega (arith, d.sized, x.sized, y.sized, lacks.0);
       within = omega (arith, y.within, lacks.0);
     }

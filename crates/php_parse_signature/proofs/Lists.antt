@@ -1,5 +1,5 @@
 -- What stands behind a parameter in a list, from what the parser saw.
-use Rattle.std.proofs.Common.{◌≡◌, ◌≢◌, ◌≤◌, ℕ, suc, ◌+◌, false, Option, List, ◌∙◌, ap}
+use Rattle.std.proofs.Common.{◌≢◌, ◌≤◌, ℕ, suc, ◌+◌, false, Option, List, ◌∙◌, ap}
 use Rattle.php_token.specs.Token.{Token}
 use Rattle.php_ast.specs.Symbol.{Symbol}
 use Rattle.php_ast.specs.statement.Tree.{then_also}
@@ -14,7 +14,7 @@ use Rattle.php_parse_signature.specs.Answer.{behind, valued, ValueRests}
 use Rattle.php_parse_signature.specs.Walk.{walk, Leads, Halts}
 use Rattle.php_parse_signature.proofs.Ends.{comma_read, paren_read, neither_read}
 use Rattle.php_parse_signature.proofs.Moves.{nested, nested_halts}
-use Rattle.php_parse_signature.proofs.Wholes.{comma_shown, end_shown}
+use Rattle.php_parse_signature.proofs.Tokens.{comma_shown, end_shown}
 
 pub comma_leads : (tokens : List Token) (at room : ℕ) (params : Params) (p : Param Nothing) (value : Option Form) → 2 ≤ room → Shows continuation tokens at (closes role.comma)
     → Leads room (behind params p value) (rest tokens at) (due_param (then_also params (valued p value))) (rest tokens (at + 1))

@@ -1,13 +1,13 @@
 -- The value of a parameter or none, and the whole parameter.
-use Rattle.std.proofs.Common.{◌≡◌, ◌≤◌, ℕ, suc, ◌+◌, Bool, true, false, Option, Some, None, List, [], ◌∷◌, refl, sym, ◌∙◌, ap, arith}
+use Rattle.std.proofs.Common.{◌≡◌, ◌≤◌, ℕ, suc, ◌+◌, Bool, true, Option, Some, None, List, [], refl, ◌∙◌, ap, arith}
 use Rattle.php_token.specs.Token.{Token}
 use Rattle.php_token.specs.declared.kind.Punct.TheVariants as mark
-use Rattle.php_ast.specs.Symbol.{Symbol, punct}
+use Rattle.php_ast.specs.Symbol.{punct}
 use Rattle.php_ast.specs.declared.spot.Name as rust_name
 use Rattle.php_ast.specs.declared.expression.Expr.{Expr}
 use Rattle.php_ast.specs.declared.declaration.Type as rust_type
 use Rattle.php_ast.specs.expression.View.{view}
-use Rattle.php_ast.specs.expression.Placed.{noted, notes_of}
+use Rattle.php_ast.specs.expression.Placed.{notes_of}
 use Rattle.php_ast.specs.statement.Tree.{Name}
 use Rattle.php_ast.specs.statement.Placed.{size_value, noted_name, noted_optional}
 use Rattle.php_ast.specs.statement.View.{optional, name_view}
@@ -21,13 +21,7 @@ use Rattle.php_reader.specs.Seen.{Shows, rest}
 use Rattle.php_parse_signature.specs.Answer.{valued}
 use Rattle.php_parse_signature.specs.Walk.{walk, Leads}
 use Rattle.php_parse_signature.proofs.Moves.{go, nested}
-
-assign_is : (t : Symbol) → is_assign t ≡ true → t ≡ punct mark.Assign
-assign_is (punct mark.Assign) h = refl
-assign_is _ h = cc
-
-pub assign_shown : (tokens : List Token) (at : ℕ) → Shows is_assign tokens at true → rest tokens at ≡ punct mark.Assign ∷ rest tokens (at + 1)
-assign_shown tokens at o = o.stands.is ∙ ap (λ t. t ∷ rest tokens (at + 1)) (assign_is o.token o.role_is)
+use Rattle.php_parse_signature.proofs.Tokens.{assign_shown}
 
 pub assign_leads : (tokens : List Token) (at room : ℕ) (params : Params) (p : Param Nothing) → 2 ≤ room → Shows is_assign tokens at true
     → Leads room (past_param params p) (rest tokens at) (in_default params p (expects [])) (rest tokens (at + 1))

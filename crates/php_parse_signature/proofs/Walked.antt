@@ -45,7 +45,7 @@ pub record Walks (n : ℕ) (m : SignatureState) (w : List Symbol) (o : Outcome) 
 reads_none : (n : ℕ) (m : SignatureState) → Reads n m [] m
 reads_none n m = record { nesting = []; count = refl; shallow = tt; leads = λ z. refl; counts = λ z. refl; begins = λ f b. b }
 
-begun_next : (o : Option SignatureState) (x : SignatureState) (f : List Symbol → List Symbol) → o ≡ Some x → BegunIf o f → Begun x f
+pub begun_next : (o : Option SignatureState) (x : SignatureState) (f : List Symbol → List Symbol) → o ≡ Some x → BegunIf o f → Begun x f
 begun_next (Some y) x f is b = let same : y ≡ x = cc in subst (λ m. Begun m f) same b
 begun_next None x f is b = cc
 

@@ -1,12 +1,11 @@
 -- The result, the parameters one after the other, and the whole signature.
-use Rattle.std.proofs.Common.{◌≡◌, ◌≤◌, ℕ, suc, ◌+◌, Bool, true, false, Option, Some, None, List, [], ◌∷◌, ◌++◌, map, refl, sym, ◌∙◌, ap, subst, arith}
+use Rattle.std.proofs.Common.{◌≡◌, ℕ, ◌+◌, true, Option, Some, List, [], ◌∷◌, ◌++◌, map, refl, sym, ◌∙◌, ap, arith}
 use Rattle.php_token.specs.Token.{Token}
 use Rattle.php_token.specs.declared.kind.Punct.TheVariants as mark
-use Rattle.php_ast.specs.Symbol.{Symbol, punct}
+use Rattle.php_ast.specs.Symbol.{punct}
 use Rattle.php_ast.specs.declared.declaration.Param as rust_param
 use Rattle.php_ast.specs.declared.declaration.Type as rust_type
 use Rattle.php_ast.specs.expression.Placed.{notes_of}
-use Rattle.php_ast.specs.expression.View.{Note}
 use Rattle.php_ast.specs.statement.Tree.{Sequence, empty, then_also}
 use Rattle.php_ast.specs.statement.Placed.{size_separated, size_separator, noted_separated}
 use Rattle.php_ast.specs.statement.View.{sequence_from, sequence, optional}
@@ -15,40 +14,14 @@ use Rattle.php_ast.specs.declaration.Spelling.{spell_type}
 use Rattle.php_ast.specs.declaration.Placed.{size_param, noted_param, noted_declared, noted_signature}
 use Rattle.php_ast.specs.declaration.View.{param_view, type_view, signature_view}
 use Rattle.php_grammar.specs.expression.Machine.{Nothing}
-use Rattle.php_grammar.specs.expression.Role as role
-use Rattle.php_grammar.specs.expression.Role.{continuation, closes, is_paren, is_right_paren, is_colon}
+use Rattle.php_grammar.specs.expression.Role.{is_paren, is_colon}
 use Rattle.php_grammar.specs.declaration.SignatureMachine.{Params, Declared, due_signature, due_param, past_params, signature_of}
-use Rattle.php_grammar.proofs.expression.Roles.{Says, continuation_says}
 use Rattle.php_reader.specs.Seen.{Shows, rest}
-use Rattle.php_parse_signature.specs.Answer.{signature_over, behind}
+use Rattle.php_parse_signature.specs.Answer.{signature_over}
 use Rattle.php_parse_signature.specs.Walk.{walk, Leads}
 use Rattle.php_parse_signature.proofs.Heads.{result_read}
 use Rattle.php_parse_signature.proofs.Moves.{go}
-
--- ---- tokens
-
-paren_is : (t : Symbol) → is_paren t ≡ true → t ≡ punct mark.LeftParen
-paren_is (punct mark.LeftParen) h = refl
-paren_is _ h = cc
-
-colon_is : (t : Symbol) → is_colon t ≡ true → t ≡ punct mark.Colon
-colon_is (punct mark.Colon) h = refl
-colon_is _ h = cc
-
-closer_is : (c : role.Closer) (t : Symbol) → continuation t ≡ closes c → Says (closes c) t
-closer_is c t is = subst (λ x. Says x t) is (continuation_says t)
-
-pub paren_shown : (tokens : List Token) (at : ℕ) → Shows is_paren tokens at true → rest tokens at ≡ punct mark.LeftParen ∷ rest tokens (at + 1)
-paren_shown tokens at o = o.stands.is ∙ ap (λ t. t ∷ rest tokens (at + 1)) (paren_is o.token o.role_is)
-
-pub colon_shown : (tokens : List Token) (at : ℕ) → Shows is_colon tokens at true → rest tokens at ≡ punct mark.Colon ∷ rest tokens (at + 1)
-colon_shown tokens at o = o.stands.is ∙ ap (λ t. t ∷ rest tokens (at + 1)) (colon_is o.token o.role_is)
-
-pub comma_shown : (tokens : List Token) (at : ℕ) → Shows continuation tokens at (closes role.comma) → rest tokens at ≡ punct mark.Comma ∷ rest tokens (at + 1)
-comma_shown tokens at o = o.stands.is ∙ ap (λ t. t ∷ rest tokens (at + 1)) (closer_is role.comma o.token o.role_is)
-
-pub end_shown : (tokens : List Token) (at : ℕ) → Shows continuation tokens at (closes role.paren) → rest tokens at ≡ punct mark.RightParen ∷ rest tokens (at + 1)
-end_shown tokens at o = o.stands.is ∙ ap (λ t. t ∷ rest tokens (at + 1)) (closer_is role.paren o.token o.role_is)
+use Rattle.php_parse_signature.proofs.Tokens.{paren_shown, colon_shown}
 
 -- ---- the result
 

@@ -1,5 +1,5 @@
 -- What the functions of the parser answer.
-use Rattle.std.specs.Prelude.{◌≡◌, ◌≢◌, ◌≤◌, ◌<◌, ◌^◌, ℕ, ◌+◌, ◌-◌, Bool, true, false, Option, Some, None, Result, Ok, Err, List, [], ◌∷◌, length}
+use Rattle.std.specs.Prelude.{◌≡◌, ◌≢◌, ◌≤◌, ◌<◌, ◌^◌, ℕ, ◌+◌, Bool, true, false, Option, Some, None, Result, Ok, Err, List, [], ◌∷◌, length}
 use Rattle.php_token.specs.Token.{Token, token_at}
 use Rattle.php_token.specs.declared.kind.Punct.TheVariants as mark
 use Rattle.php_ast.specs.Symbol.{Symbol, punct, variable}
@@ -10,7 +10,7 @@ use Rattle.php_ast.specs.declared.declaration.Param as rust_param
 use Rattle.php_ast.specs.expression.Proper.{ends}
 use Rattle.php_ast.specs.expression.View.{view}
 use Rattle.php_ast.specs.expression.Placed.{size, noted, notes_of}
-use Rattle.php_ast.specs.statement.Tree.{Name, empty}
+use Rattle.php_ast.specs.statement.Tree.{empty}
 use Rattle.php_ast.specs.statement.Spelling.{symbol_if, spell_dollar}
 use Rattle.php_ast.specs.statement.Proper.{is_empty}
 use Rattle.php_ast.specs.statement.Placed.{size_if, size_separated, size_separator, size_value, noted_separated, noted_name, noted_optional}
@@ -23,7 +23,7 @@ use Rattle.php_grammar.specs.expression.Role.{is_right_paren}
 use Rattle.php_grammar.specs.expression.Machine.{Nothing, Form, expects, holds}
 use Rattle.php_grammar.specs.statement.Role.{is_assign}
 use Rattle.php_grammar.specs.statement.Machine.{named_here}
-use Rattle.php_grammar.specs.declaration.SignatureMachine.{ParamRole, at_base, at_variable, at_question, at_other, param_role, Params, Declared, SignatureState, due_signature, due_param, past_param, in_default, past_params, past_signature, param_of, with_default, signature_of}
+use Rattle.php_grammar.specs.declaration.SignatureMachine.{ParamRole, at_base, at_variable, at_question, param_role, Params, Declared, SignatureState, due_signature, due_param, past_param, in_default, past_params, past_signature, param_of, with_default, signature_of}
 use Rattle.php_grammar.specs.declaration.Laws.{ResultEnds, SignatureEnds}
 use Rattle.php_reader.specs.declared.reader.Reader.{Reader}
 use Rattle.php_reader.specs.declared.fail.Stop.{Stop}

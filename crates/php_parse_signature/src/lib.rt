@@ -4,10 +4,13 @@
 mod fronts;
 mod look;
 mod params;
+mod parse;
 mod part;
 mod read;
 mod signature;
 mod types;
 
+pub use parse::parse_signature;
+pub use php_reader::ParseFail;
 pub use read::ReadSignature;
 pub use signature::read_signature;

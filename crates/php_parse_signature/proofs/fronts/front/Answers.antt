@@ -1,5 +1,5 @@
 use Rattle.std.proofs.lemmas.Result.{err_from_is_err_and}
-use Rattle.php_parse_signature.proofs.Heads.{front_fails, type_fails}
+use Rattle.php_parse_signature.proofs.Heads.{front_fails}
 use Rattle.php_parse_signature.proofs.fronts.front.Goals as goal
 
 pub returns-in_err-name : goal.returns-in_err-name

@@ -1,4 +1,4 @@
-use Rattle.std.proofs.Common.{◌+◌, true, false, refl, ◌∙◌, ap, arith, ◌∷◌}
+use Rattle.std.proofs.Common.{true, false, refl, ◌∙◌, ap, arith, ◌∷◌}
 use Rattle.php_token.specs.Token.{token_at}
 use Rattle.php_token.specs.declared.kind.Punct.TheVariants as mark
 use Rattle.php_ast.specs.Symbol.{punct}
@@ -27,7 +27,7 @@ returns-in_ok-base_at-in-Plain c =
     record {
       form = type_of false (base_of c.in-Plain.kind (token_at c.args.reader.now.tokens.now c.args.at).text);
       shown = type_shown false _ _ _ _ (c.in_ok-base_at-in-Plain.ensures
-              ∙ ap (λ k. noted_base (notes_of c.args.reader.now.tokens.now) k (base_of c.in-Plain.kind (token_at c.args.reader.now.tokens.now c.args.at).text)) (omega arith)) refl refl;
+          ∙ ap (λ k. noted_base (notes_of c.args.reader.now.tokens.now) k (base_of c.in-Plain.kind (token_at c.args.reader.now.tokens.now c.args.at).text)) (omega arith)) refl refl;
       sized = omega arith;
       spelled = base_shown c.args.reader.now.tokens.now c.args.at (base_of c.in-Plain.kind (token_at c.args.reader.now.tokens.now c.args.at).text) o;
       within = omega (arith, o.stands.within);
