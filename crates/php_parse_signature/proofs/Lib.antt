@@ -1,0 +1,15 @@
+mod Roles
+mod Lists
+mod Moves
+mod Tells
+mod Tokens
+mod Values
+mod Walked
+mod Wholes
+mod Begun
+mod Blanks
+mod Bridge
+mod Defaults
+mod Exactly
+mod Heads
+mod Ends

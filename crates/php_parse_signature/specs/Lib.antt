@@ -1,0 +1,5 @@
+pub mod Answer
+pub mod Exact
+pub mod Flat
+pub mod PartView
+pub mod Walk
