@@ -91,24 +91,32 @@ identities_with n = map (λ d. same_in samples (content_of samples n) d) values
 -- the outcomes in short: less, same, more, apart; a float would be needed; an object with a string; nesting
 abbrev pub lt : Compared
 lt = Ok Less
+
 abbrev pub eq : Compared
 eq = Ok Same
+
 abbrev pub gt : Compared
 gt = Ok More
+
 abbrev pub ap : Compared
 ap = Ok Apart
+
 abbrev pub fl : Compared
 fl = Err (Ends FloatNeeded)
+
 abbrev pub ob : Compared
 ob = Err (Throws OBJECT_AGAINST_STRING)
+
 abbrev pub ne : Compared
 ne = Err (Throws NESTING_TOO_DEEP)
 
 -- identical, not identical, nesting
 abbrev pub yes : Identified
 yes = Ok true
+
 abbrev pub no : Identified
 no = Ok false
+
 abbrev pub deep : Identified
 deep = Err (Throws NESTING_TOO_DEEP)
 

@@ -1,3 +1,6 @@
 pub mod GlanceLemmas
 pub mod WalkLemmas
 pub mod PlaceLemmas
+pub mod ObjectLemmas
+pub mod OutcomeLemmas
+pub mod ElementLemmas

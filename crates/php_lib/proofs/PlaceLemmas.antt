@@ -1,5 +1,5 @@
 -- What stands under a place, and what may be looked at there.
-use Rattle.std.proofs.Common.{◌≡◌, inl, inr, ℕ, zero, suc, ◌+◌, ◌<◌, ◌≤◌, refl, sym, ◌∙◌, ap, List, [], ◌∷◌, ◌++◌, Option, Some, None, arith, subst}
+use Rattle.std.proofs.Common.{◌≡◌, inl, inr, ℕ, zero, suc, ◌+◌, ◌^◌, ◌<◌, ◌≤◌, refl, sym, ◌∙◌, ap, List, [], ◌∷◌, ◌++◌, Option, Some, None, arith, subst}
 use Rattle.std.specs.Prelude.{Bool, true, false, nat_lt, nat_eq, cond, option_map, find, IfSome, IfNone, IsSome, unwrap_or}
 use Rattle.std.proofs.lemmas.Bool.{cases_Bool, eq-eqb}
 use Rattle.php_value.specs.declared.key.Key.{Key}
@@ -17,31 +17,8 @@ use Rattle.php_memdef.specs.Sound.{IsKeyWithin, IsSoundContent, AreSoundItems, I
 use Rattle.php_memdef.specs.Conditions.{IsPlace, IsObject, AreStepsWithin}
 use Rattle.php_memdef.specs.Meanings.{SomeMeant, EachMeant}
 use Rattle.php_compare.specs.Places.{or_null}
-use Rattle.php_lib.specs.Comparing.{under, CanCompare}
-use Rattle.php_lib.proofs.WalkLemmas.{key_within, is_above}
-
--- going on and back
-
-no_last : (xs : List Step) (x : Step) → [] ≡ xs ++ x ∷ [] → ⊥
-no_last [] x h = cc
-no_last (y ∷ xs) x h = cc
-
-front_is : (xs ys : List Step) (x y : Step) → xs ++ x ∷ [] ≡ ys ++ y ∷ [] → xs ≡ ys
-front_is [] [] x y h = refl
-front_is [] (b ∷ ys) x y h = absurd (no_last ys y (let rest : [] ≡ ys ++ y ∷ [] = cc in rest))
-front_is (a ∷ xs) [] x y h = absurd (no_last xs x (let rest : [] ≡ xs ++ x ∷ [] = cc in rest))
-front_is (a ∷ xs) (b ∷ ys) x y h =
-    let first : a ≡ b = cc in
-    let rest : xs ++ x ∷ [] ≡ ys ++ y ∷ [] = cc in
-    let front = front_is xs ys x y rest in
-    λ i. first i ∷ front i
-
-pub popped_back : (r : Option Step) (old new path : List Step) (k : Key) → IfSome r (λ step. old ≡ new ++ step ∷ []) → IfNone r ((old ≡ []) × (new ≡ [])) → old ≡ path ++ At k ∷ [] → new ≡ path
-popped_back None old new path k some none e = absurd (no_last path (At k) (sym none.0 ∙ e))
-popped_back (Some step) old new path k some none e = front_is new path step (At k) (sym some ∙ e)
-
-pub place_back : (old p : Place) (new : List Step) (k : Key) → old ≡ under p k → new ≡ p.path → record old { path = new } ≡ p
-place_back old p new k e f = let base : old.base ≡ p.base = ap (λ (q : Place). q.base) e in λ i. record { base = base i; path = f i }
+use Rattle.php_lib.specs.Comparing.{under, CanCompare, CanCompareObjects}
+use Rattle.php_lib.proofs.WalkLemmas.{key_within, is_above, is_below, serial_and_key}
 
 -- what stands under a key
 
@@ -93,13 +70,16 @@ found_sound m p c e sound = found_spot_sound m (find_place m p) c e sound
 
 -- an object whose handle stands at a place is there
 
+abbrev one_if : Bool → ℕ
+one_if b = cond b 1 0
+
 module _ (h : ℕ) where
   handle_in_items : (is : List Item) (n : ℕ) → content_if (nth_item is n) ≡ object h → 0 < times h (handles_of_items is)
   handle_in_items [] n e = absurd (let no : ⊥ = cc in no)
   handle_in_items (value c ∷ is) zero e = rw e (counted is)
     where
       counted : (is : List Item) → 0 < times h (h ∷ handles_of_items is)
-      counted is = let self : cond (nat_eq h h) 1 0 ≡ 1 = ap (λ (b : Bool). cond b 1 0) (eq-eqb h h refl) in omega (arith, self)
+      counted is = let self : one_if (nat_eq h h) ≡ 1 = ap one_if (eq-eqb h h refl) in omega (arith, self)
   handle_in_items (link s ∷ is) zero e = absurd (let no : ⊥ = cc in no)
   handle_in_items (value c ∷ is) (suc n) e = more (handles_of_content c) (handles_of_items is) (handle_in_items is n e)
     where
@@ -114,8 +94,8 @@ module _ (h : ℕ) where
       front : (xs ys : List ℕ) → 0 < times h xs → 0 < times h (xs ++ ys)
       front [] ys d = absurd (omega (arith, d))
       front (x ∷ xs) ys d = elim (cases_Bool (nat_eq h x)) [
-        | inl t ↦ (let here : cond (nat_eq h x) 1 0 ≡ 1 = ap (λ (b : Bool). cond b 1 0) t in omega (arith, here))
-        | inr t ↦ (let here : cond (nat_eq h x) 1 0 ≡ 0 = ap (λ (b : Bool). cond b 1 0) t in let rest : 0 < times h (xs ++ ys) = front xs ys (omega (arith, here, d)) in omega (arith, rest))
+        | inl t ↦ (let here : one_if (nat_eq h x) ≡ 1 = ap one_if t in omega (arith, here))
+        | inr t ↦ (let here : one_if (nat_eq h x) ≡ 0 = ap one_if t in let rest : 0 < times h (xs ++ ys) = front xs ys (omega (arith, here, d)) in omega (arith, rest))
       ]
 
   part_of_total : {X : Type 0} (weight : X → ℕ) (xs : Numbered X) (n : ℕ) (x : X) → numbered xs n ≡ Some x → weight x ≤ total weight xs
@@ -129,7 +109,7 @@ module _ (h : ℕ) where
   stored_handle m s (Some c) e d =
       let part = part_of_total (λ (x : Content). times h (handles_of_content x)) m.stores s c e in
       let one : times h (handles_of_content c) ≡ times h (h ∷ []) = ap (λ (x : Content). times h (handles_of_content x)) d in
-      let self : cond (nat_eq h h) 1 0 ≡ 1 = ap (λ (b : Bool). cond b 1 0) (eq-eqb h h refl) in
+      let self : one_if (nat_eq h h) ≡ 1 = ap one_if (eq-eqb h h refl) in
       omega (arith, part, one, self)
 
   standing_handle : (m : Mem) (b n : ℕ) (o : Option Scope) → numbered m.blocks b ≡ o → content_if (nth_item (unwrap_or o no_scope).temps n) ≡ object h → 0 < object_holders m h
@@ -161,38 +141,53 @@ steps_snoc (Push ∷ path) k h w = steps_snoc path k h w
 place_under : (m : Mem) (p : Place) (k : Key) → IsPlace m p → IsKeyWithin k → IsPlace m (under p k)
 place_under m p k h w = (h.0, steps_snoc p.path k h.1 w)
 
-later_of_entries : (es : Option (Entry ℕ)) (next : ℕ) (k : Key) → option_map (λ (e : Entry ℕ). (e.serial, e.key)) es ≡ Some (next, k) → (e : Entry ℕ) × (es ≡ Some e) × (e.serial ≡ next) × (e.key ≡ k)
+later_of_entries : (es : Option (Entry ℕ)) (next : ℕ) (k : Key) → option_map serial_and_key es ≡ Some (next, k) → (e : Entry ℕ) × (es ≡ Some e) × (e.serial ≡ next) × (e.key ≡ k)
 later_of_entries None next k h = absurd (let no : ⊥ = cc in no)
 later_of_entries (Some e) next k h =
     let pair : (e.serial, e.key) ≡ (next, k) = cc in
     (e, refl, ap (λ (p : ℕ × Key). p.0) pair, ap (λ (p : ℕ × Key). p.1) pair)
 
-key_of_content : (m : Mem) (c : Content) (serial next : ℕ) (k : Key) → IsSoundContent c → entry_if_later (elements_of c) serial ≡ Some (next, k) → IsKeyWithin k × (serial < next)
+key_of_content : (m : Mem) (c : Content) (serial next : ℕ) (k : Key) → IsSoundContent c → entry_if_later (elements_of c) serial ≡ Some (next, k) → IsKeyWithin k × (serial < next) × (next < 2 ^ 64)
 key_of_content m null serial next k sound h = absurd (let no : ⊥ = cc in no)
 key_of_content m (truth b) serial next k sound h = absurd (let no : ⊥ = cc in no)
 key_of_content m (int i) serial next k sound h = absurd (let no : ⊥ = cc in no)
 key_of_content m (text bytes) serial next k sound h = absurd (let no : ⊥ = cc in no)
 key_of_content m (object g) serial next k sound h = absurd (let no : ⊥ = cc in no)
 key_of_content m (array t) serial next k sound h =
-    let e = later_of_entries (find (λ (g : Entry ℕ). nat_lt serial g.serial) t.entries) next k h in
-    (
+    let e = later_of_entries (find (λ (g : Entry ℕ). nat_lt serial g.serial) t.entries) next k h in (
       subst IsKeyWithin e.3 (key_within serial t.entries e.0 sound.1 e.1),
       subst (λ (n : ℕ). serial < n) e.2 (is_above serial t.entries e.0 e.1),
+      (let below : e.0.serial < t.next_serial = is_below 0 serial t.entries t.next_serial e.0 sound.0.serials_rise e.1 in let limit = sound.0.next_serial_within in let same : e.0.serial ≡ next = e.2 in omega (arith, below, limit, same)),
     )
 
-key_of_found : (m : Mem) (o : Option Content) (serial next : ℕ) (k : Key) → ((c : Content) → o ≡ Some c → IsSoundContent c) → entry_if_later (elements_if_found o) serial ≡ Some (next, k) → IsKeyWithin k × (serial < next)
+key_of_found : (m : Mem) (o : Option Content) (serial next : ℕ) (k : Key) → ((c : Content) → o ≡ Some c → IsSoundContent c) → entry_if_later (elements_if_found o) serial ≡ Some (next, k) → IsKeyWithin k × (serial < next) × (next < 2 ^ 64)
 key_of_found m None serial next k sound h = absurd (let no : ⊥ = cc in no)
 key_of_found m (Some c) serial next k sound h = key_of_content m c serial next k (sound c refl) h
 
-pub key_of_later : (m : Mem) (p : Place) (serial next : ℕ) (k : Key) → IsSound m → later_entry m p serial ≡ Some (next, k) → IsKeyWithin k × (serial < next)
+pub key_of_later : (m : Mem) (p : Place) (serial next : ℕ) (k : Key) → IsSound m → later_entry m p serial ≡ Some (next, k) → IsKeyWithin k × (serial < next) × (next < 2 ^ 64)
 key_of_later m p serial next k sound h = key_of_found m (found m p) serial next k (λ c e. found_sound m p c e sound) h
 
 pub can_go_on : (Means : Mem → Type 0) (p q left right : Place) (serial next : ℕ) (k : Key) → SomeMeant Means (CanCompare p q) → EachMeant Means (λ m. later_entry m p serial ≡ Some (next, k)) → left ≡ under p k → right ≡ under q k → SomeMeant Means (CanCompare left right)
 can_go_on Means p q left right serial next k can later e f =
     let m : Mem = can.0 in
-    let within = (key_of_later m p serial next k can.2.sound (later m can.1)).0 in
-    (m, can.1, record {
-      sound = can.2.sound;
-      left = subst (IsPlace m) (sym e) (place_under m p k can.2.left within);
-      right = subst (IsPlace m) (sym f) (place_under m q k can.2.right within);
-    })
+    let within = (key_of_later m p serial next k can.2.sound (later m can.1)).0 in (
+      m,
+      can.1,
+      record {
+        sound = can.2.sound;
+        left = subst (IsPlace m) (sym e) (place_under m p k can.2.left within);
+        right = subst (IsPlace m) (sym f) (place_under m q k can.2.right within);
+      },
+    )
+
+pub objects_can : (Means : Mem → Type 0) (p q : Place) (g h : ℕ) → SomeMeant Means (CanCompare p q) → EachMeant Means (λ m. (or_null (found m p) ≡ object g) × (or_null (found m q) ≡ object h)) → SomeMeant Means (CanCompareObjects g h)
+objects_can Means p q g h can are =
+    let m : Mem = can.0 in (
+      m,
+      can.1,
+      record {
+        sound = can.2.sound;
+        left = object_there g m p can.2.sound (are m can.1).0;
+        right = object_there h m q can.2.sound (are m can.1).1;
+      },
+    )

@@ -71,6 +71,13 @@ above_bound from s (f ∷ es) to e rise h = elim (cases_Bool (nat_lt s f.serial)
   | inr t ↦ (let below : f.serial < e.serial = above_bound f.serial s es to e rise.2 (sym (find_behind s f es t) ∙ h) in let first : from < f.serial = rise.0 in omega arith)
 ]
 
+pub is_below : (from s : ℕ) (es : List (Entry ℕ)) (to : ℕ) (e : Entry ℕ) → DoSerialsRise from es to → find (λ g. nat_lt s g.serial) es ≡ Some e → e.serial < to
+is_below from s [] to e rise h = absurd (no_entry e h)
+is_below from s (f ∷ es) to e rise h = elim (cases_Bool (nat_lt s f.serial)) [
+  | inl t ↦ subst (λ (g : Entry ℕ). g.serial < to) (same_entry f e (sym (find_here s f es t) ∙ h)) rise.1
+  | inr t ↦ is_below f.serial s es to e rise.2 (sym (find_behind s f es t) ∙ h)
+]
+
 pub first_later : (from s : ℕ) (es : List (Entry ℕ)) (to : ℕ) (e : Entry ℕ) → DoSerialsRise from es to → find (λ g. nat_lt s g.serial) es ≡ Some e → later s es ≡ e ∷ later e.serial es
 first_later from s [] to e rise h = absurd (no_entry e h)
 first_later from s (f ∷ es) to e rise h = elim (cases_Bool (nat_lt s f.serial)) [
@@ -109,6 +116,9 @@ key_within s (f ∷ es) e within h = elim (cases_Bool (nat_lt s f.serial)) [
 
 -- the entry with the next serial
 
+abbrev pub serial_and_key : Entry ℕ → ℕ × Key
+serial_and_key e = (e.serial, e.key)
+
 pub record Turn (s : Listing ℕ) (serial next : ℕ) (k : Key) : Type 0 where
   pub entry : Entry ℕ
   pub is_first : later serial s.entries ≡ entry ∷ later next s.entries
@@ -117,7 +127,7 @@ pub record Turn (s : Listing ℕ) (serial next : ℕ) (k : Key) : Type 0 where
   pub is_found : find (λ (g : Entry ℕ). nat_lt serial g.serial) s.entries ≡ Some entry
   pub serial_is : entry.serial ≡ next
 
-turn_of : (s : Listing ℕ) (serial next : ℕ) (k : Key) (o : Option (Entry ℕ)) → IsSoundListing s → find (λ (g : Entry ℕ). nat_lt serial g.serial) s.entries ≡ o → option_map (λ (e : Entry ℕ). (e.serial, e.key)) o ≡ Some (next, k) → Turn s serial next k
+turn_of : (s : Listing ℕ) (serial next : ℕ) (k : Key) (o : Option (Entry ℕ)) → IsSoundListing s → find (λ (g : Entry ℕ). nat_lt serial g.serial) s.entries ≡ o → option_map serial_and_key o ≡ Some (next, k) → Turn s serial next k
 turn_of s serial next k None sound f h = absurd (let no : ⊥ = cc in no)
 turn_of s serial next k (Some e) sound f h =
     let pair : (e.serial, e.key) ≡ (next, k) = cc in
@@ -135,7 +145,7 @@ turn_of s serial next k (Some e) sound f h =
 pub turn : (s : Listing ℕ) (serial next : ℕ) (k : Key) → IsSoundListing s → entry_if_later (Some s) serial ≡ Some (next, k) → Turn s serial next k
 turn s serial next k sound h = turn_of s serial next k (find (λ (g : Entry ℕ). nat_lt serial g.serial) s.entries) sound refl h
 
-over_of : (s : Listing ℕ) (serial : ℕ) (o : Option (Entry ℕ)) → find (λ (g : Entry ℕ). nat_lt serial g.serial) s.entries ≡ o → option_map (λ (e : Entry ℕ). (e.serial, e.key)) o ≡ None → later serial s.entries ≡ []
+over_of : (s : Listing ℕ) (serial : ℕ) (o : Option (Entry ℕ)) → find (λ (g : Entry ℕ). nat_lt serial g.serial) s.entries ≡ o → option_map serial_and_key o ≡ None → later serial s.entries ≡ []
 over_of s serial None f h = none_later serial s.entries f
 over_of s serial (Some e) f h = absurd (let no : ⊥ = cc in no)
 

@@ -2,7 +2,9 @@
 ghost use Rattle.std.specs.Prelude.{◌≡◌};
 ghost use Rattle.php_lib.specs.Glances.{truth_shown, glance_by, counted, at_a_glance, with_null, with_bool, with_int, with_text, with_array, with_object, like_null, like_bool, like_int, like_text, like_array, like_object, identity_at_a_glance, is_missing, order_of_int_and_text, order_of_text_and_int};
 
-use crate::scalars::{has_truth, number_of, order_by, order_of_bools, order_of_ints, order_of_texts};
+use crate::scalars::{
+    has_truth, number_of, order_by, order_of_bools, order_of_ints, order_of_texts,
+};
 use php_memdef::{Obj, Peek};
 use php_value::{ErrorKind, Fault, Order, Stopped, Text};
 
@@ -72,12 +74,8 @@ fn with_null(right: &Peek<'_>) -> Glance
 {
     match right {
         Peek::Str(text) => glance_by(order_of_texts(&[], text.bytes())),
-        Peek::Absent
-        | Peek::Null
-        | Peek::Bool(_)
-        | Peek::Int(_)
-        | Peek::Arr(_)
-        | Peek::Obj(_) => with_bool(false, right),
+        Peek::Absent | Peek::Null | Peek::Bool(_) | Peek::Int(_) | Peek::Arr(_) | Peek::Obj(_) =>
+            with_bool(false, right),
     }
 }
 
@@ -182,12 +180,8 @@ fn like_bool(left: bool, right: &Peek<'_>) -> Likeness
 {
     match right {
         Peek::Bool(right) => Likeness::Known(if left { *right } else { !*right }),
-        Peek::Absent
-        | Peek::Null
-        | Peek::Int(_)
-        | Peek::Str(_)
-        | Peek::Arr(_)
-        | Peek::Obj(_) => Likeness::Known(false),
+        Peek::Absent | Peek::Null | Peek::Int(_) | Peek::Str(_) | Peek::Arr(_) | Peek::Obj(_) =>
+            Likeness::Known(false),
     }
 }
 
@@ -196,12 +190,8 @@ fn like_int(left: i64, right: &Peek<'_>) -> Likeness
 {
     match right {
         Peek::Int(right) => Likeness::Known(left == *right),
-        Peek::Absent
-        | Peek::Null
-        | Peek::Bool(_)
-        | Peek::Str(_)
-        | Peek::Arr(_)
-        | Peek::Obj(_) => Likeness::Known(false),
+        Peek::Absent | Peek::Null | Peek::Bool(_) | Peek::Str(_) | Peek::Arr(_) | Peek::Obj(_) =>
+            Likeness::Known(false),
     }
 }
 
@@ -210,12 +200,8 @@ fn like_text(left: &Text, right: &Peek<'_>) -> Likeness
 {
     match right {
         Peek::Str(right) => Likeness::Known(left.bytes() == right.bytes()),
-        Peek::Absent
-        | Peek::Null
-        | Peek::Bool(_)
-        | Peek::Int(_)
-        | Peek::Arr(_)
-        | Peek::Obj(_) => Likeness::Known(false),
+        Peek::Absent | Peek::Null | Peek::Bool(_) | Peek::Int(_) | Peek::Arr(_) | Peek::Obj(_) =>
+            Likeness::Known(false),
     }
 }
 
@@ -230,12 +216,8 @@ fn like_array(left: usize, right: &Peek<'_>) -> Likeness
                 Likeness::Known(false)
             }
         }
-        Peek::Absent
-        | Peek::Null
-        | Peek::Bool(_)
-        | Peek::Int(_)
-        | Peek::Str(_)
-        | Peek::Obj(_) => Likeness::Known(false),
+        Peek::Absent | Peek::Null | Peek::Bool(_) | Peek::Int(_) | Peek::Str(_) | Peek::Obj(_) =>
+            Likeness::Known(false),
     }
 }
 
@@ -244,12 +226,8 @@ fn like_object(left: Obj, right: &Peek<'_>) -> Likeness
 {
     match right {
         Peek::Obj(right) => Likeness::Known(left.0 == right.0),
-        Peek::Absent
-        | Peek::Null
-        | Peek::Bool(_)
-        | Peek::Int(_)
-        | Peek::Str(_)
-        | Peek::Arr(_) => Likeness::Known(false),
+        Peek::Absent | Peek::Null | Peek::Bool(_) | Peek::Int(_) | Peek::Str(_) | Peek::Arr(_) =>
+            Likeness::Known(false),
     }
 }
 

@@ -14,6 +14,7 @@ ghost use Rattle.php_lib.specs.Glances.{TellsLikeness};
 use crate::glance::{Likeness, identity_at_a_glance};
 use crate::ordering::LEVELS;
 use crate::places::{step_back, step_to};
+use crate::scalars::is_same_key;
 use php_memdef::{Memory, Place};
 use php_value::{ErrorKind, Stopped};
 use std::alloc::Global;
@@ -22,12 +23,7 @@ use std::alloc::Global;
 ///
 /// Arrays of one count are compared entry by entry, which takes memory for the places of the entries. Of anything
 /// else no place is made. What stands in 257 arrays throws `NESTING_TOO_DEEP`.
-pub fn same<M: Memory>(
-    alloc: Global,
-    memory: &M,
-    a: &Place,
-    b: &Place,
-) -> Result<bool, Stopped>
+pub fn same<M: Memory>(alloc: Global, memory: &M, a: &Place, b: &Place) -> Result<bool, Stopped>
     requires { SomeMeant (M.means memory.now) (CanCompare a.now b.now) }
     ensures value { EachMeant (M.means memory.now)
         (λ m. IsSound m → ComesTo result (same_at m a.now b.now)) }
@@ -36,7 +32,14 @@ pub fn same<M: Memory>(
 {
     let left = memory.peek(a);
     let right = memory.peek(b);
-    same_by_glance(alloc, memory, a, b, identity_at_a_glance(&left, &right), LEVELS - 1)
+    same_by_glance(
+        alloc,
+        memory,
+        a,
+        b,
+        identity_at_a_glance(&left, &right),
+        LEVELS - 1,
+    )
 }
 
 // So many levels of nesting are left for the parts of the two values.
@@ -56,7 +59,7 @@ fn same_by_glance<M: Memory>(
         (λ m. IsSound m → ComesTo result (same_by_rules (same_nested m levels) m (content_there m a.now) (content_there m b.now))) }
     ensures takes_no_memory { EachMeant (M.means memory.now)
         (λ m. goes_deeper (content_there m a.now) (content_there m b.now) ≡ false
-            → result ≡ same_by_rules (same_nested m levels) m (content_there m a.now) (content_there m b.now)) }
+        → result ≡ same_by_rules (same_nested m levels) m (content_there m a.now) (content_there m b.now)) }
 {
     match likeness {
         Likeness::Known(is_same) => Ok(is_same),
@@ -82,7 +85,14 @@ fn same_places<M: Memory>(
     }
     let left = memory.peek(a);
     let right = memory.peek(b);
-    same_by_glance(alloc, memory, a, b, identity_at_a_glance(&left, &right), levels - 1)
+    same_by_glance(
+        alloc,
+        memory,
+        a,
+        b,
+        identity_at_a_glance(&left, &right),
+        levels - 1,
+    )
 }
 
 // Two arrays of as many entries, entry by entry in their order.
@@ -97,7 +107,7 @@ fn same_elements<M: Memory>(
     requires { SomeMeant (M.means memory.now) (CanCompare a.now b.now) }
     ensures { EachMeant (M.means memory.now)
         (λ m. IsSound m → (s t : Listing ℕ) → found m a.now ≡ Some (array s) → found m b.now ≡ Some (array t)
-            → count_of s ≡ count_of t → ComesTo result (same_entries (same_nested m levels) m s.entries t.entries)) }
+        → count_of s ≡ count_of t → ComesTo result (same_entries (same_nested m levels) m s.entries t.entries)) }
 {
     let mut left = a.copy()?;
     let mut right = b.copy()?;
@@ -107,16 +117,21 @@ fn same_elements<M: Memory>(
     let mut right_near = 0;
     while let Some((next, key)) = memory.entry_after_near(a, left_serial, &mut left_near) {
         left_serial = next;
-        let Some((right_next, right_key)) = memory.entry_after_near(b, right_serial, &mut right_near) else {
+        let Some((right_next, right_key)) = memory.entry_after_near(
+            b,
+            right_serial,
+            &mut right_near,
+        ) else {
             return Ok(false);
         };
         right_serial = right_next;
-        if key != right_key {
+        if !is_same_key(key, right_key) {
             return Ok(false);
         }
         step_to(&mut left, key)?;
         step_to(&mut right, key)?;
-        if !same_places(alloc, memory, &left, &right, levels)? {
+        let is_same = same_places(alloc, memory, &left, &right, levels)?;
+        if !is_same {
             return Ok(false);
         }
         step_back(&mut left);

@@ -15,7 +15,7 @@ ghost use Rattle.php_lib.specs.Glances.{Tells};
 
 use crate::glance::{Glance, at_a_glance, is_missing};
 use crate::places::{property_place, step_back, step_to};
-use crate::scalars::{is_same, order_by};
+use crate::scalars::{is_same, order_of_bools};
 use php_base::NoMemory;
 use php_memdef::{Memory, Obj, Place};
 use php_value::{ErrorKind, Order, Stopped};
@@ -30,12 +30,7 @@ pub const LEVELS: usize = 257;
 /// and of arrays of different counts, no place is made. An object with a string throws `OBJECT_AGAINST_STRING`, and
 /// what stands in 257 arrays or objects throws `NESTING_TOO_DEEP`. A text that only a float could hold is the fault
 /// `FloatNeeded`.
-pub fn compare<M: Memory>(
-    alloc: Global,
-    memory: &M,
-    a: &Place,
-    b: &Place,
-) -> Result<Order, Stopped>
+pub fn compare<M: Memory>(alloc: Global, memory: &M, a: &Place, b: &Place) -> Result<Order, Stopped>
     requires { SomeMeant (M.means memory.now) (CanCompare a.now b.now) }
     ensures value { EachMeant (M.means memory.now)
         (λ m. IsSound m → ComesTo result (order_at m a.now b.now)) }
@@ -64,7 +59,7 @@ fn order_by_glance<M: Memory>(
         (λ m. IsSound m → ComesTo result (order_by_rules (order_nested m levels) m (content_there m a.now) (content_there m b.now))) }
     ensures takes_no_memory { EachMeant (M.means memory.now)
         (λ m. goes_deeper (content_there m a.now) (content_there m b.now) ≡ false
-            → result ≡ order_by_rules (order_nested m levels) m (content_there m a.now) (content_there m b.now)) }
+        → result ≡ order_by_rules (order_nested m levels) m (content_there m a.now) (content_there m b.now)) }
 {
     match glance {
         Glance::Known(order) => Ok(order),
@@ -110,7 +105,7 @@ fn order_of_elements<M: Memory>(
     requires { SomeMeant (M.means memory.now) (CanCompare a.now b.now) }
     ensures { EachMeant (M.means memory.now)
         (λ m. IsSound m → (s t : Listing ℕ) → found m a.now ≡ Some (array s) → found m b.now ≡ Some (array t)
-            → ComesTo result (order_of_pairs (order_nested m levels) m (element_pairs s.entries t))) }
+        → ComesTo result (order_of_pairs (order_nested m levels) m (element_pairs s.entries t))) }
 {
     let mut left = a.copy()?;
     let mut right = b.copy()?;
@@ -165,7 +160,7 @@ fn order_of_properties<M: Memory>(
     requires { SomeMeant (M.means memory.now) (CanCompareObjects g.0 h.0) }
     ensures { EachMeant (M.means memory.now)
         (λ m. IsSound m → ComesTo result (order_of_pairs (order_nested m levels) m
-            (property_pairs (object_of m g.0).properties (object_of m h.0).properties))) }
+        (property_pairs (object_of m g.0).properties (object_of m h.0).properties))) }
 {
     for place in 0..usize::MAX {
         let Some(name) = memory.prop_at(g, place) else {
@@ -190,8 +185,11 @@ fn order_of_property_counts<M: Memory>(memory: &M, g: Obj, h: Obj) -> Result<Ord
     for place in 0..usize::MAX {
         let left = memory.prop_at(g, place).is_some();
         let right = memory.prop_at(h, place).is_some();
-        if !left || !right {
-            return Ok(order_by(left.cmp(&right)));
+        if !left {
+            return Ok(order_of_bools(false, right));
+        }
+        if !right {
+            return Ok(Order::More);
         }
     }
     Err(NoMemory)

@@ -3,8 +3,9 @@ ghost use Rattle.std.specs.Prelude.{◌≡◌};
 ghost use Rattle.php_value.specs.Comparison.{is_same, order_by, order_of_bools, order_of_ints, order_of_texts};
 ghost use Rattle.php_value.specs.Conversion.{has_truth, int_of_form};
 ghost use Rattle.php_value.specs.Form.{form_of};
+ghost use Rattle.php_entries.specs.Keys.{key_eq};
 
-use php_value::{Fault, Form, Order, numeric_form};
+use php_value::{Fault, Form, Key, Order, numeric_form};
 use std::cmp::Ordering;
 
 pub fn order_by(ordering: Ordering) -> Order
@@ -65,4 +66,14 @@ pub fn is_same(order: Order) -> bool
     ensures { result ≡ is_same order }
 {
     matches!(order, Order::Same)
+}
+
+pub fn is_same_key(a: &Key, b: &Key) -> bool
+    ensures { result ≡ key_eq a.now b.now }
+{
+    match (a, b) {
+        (Key::Int(i), Key::Int(j)) => i == j,
+        (Key::Str(s), Key::Str(t)) => s.bytes() == t.bytes(),
+        (Key::Int(_), Key::Str(_)) | (Key::Str(_), Key::Int(_)) => false,
+    }
 }
