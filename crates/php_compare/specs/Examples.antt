@@ -1,8 +1,8 @@
 -- Each rule of comparison, beside the nearest pair that another rule decides. They are proved by computing.
-use Rattle.std.specs.Prelude.{◌≡◌, ℕ, zero, suc, ◌+◌, Bool, true, false, List, [], ◌∷◌, Option, None, pos, negsuc, codes}
+use Rattle.std.specs.Prelude.{◌≡◌, ℕ, zero, suc, ◌+◌, true, false, List, [], ◌∷◌, Option, None, pos, negsuc, codes}
 use Rattle.php_value.specs.declared.key.Key.{Key}
 use Rattle.php_value.specs.declared.key.Key.TheVariants as key
-use Rattle.php_memdef.specs.Contents.{Content, null, truth, int, text, array, object, Object, Mem, fresh, content_of}
+use Rattle.php_memdef.specs.Contents.{Content, null, truth, int, text, object, Object, Mem, fresh, content_of}
 use Rattle.php_compare.specs.Outcomes.{Compared, Identified}
 use Rattle.php_compare.specs.Ordering.{order_in}
 use Rattle.php_compare.specs.Identity.{same_in}

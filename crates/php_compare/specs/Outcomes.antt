@@ -1,9 +1,8 @@
 -- What a comparison comes to.
 use Rattle.std.specs.Prelude.{Bool, true, false, Result, Ok, Err}
-use Rattle.php_value.specs.declared.error_kind.ErrorKind.{ErrorKind}
 use Rattle.php_value.specs.declared.fault.Fault.{Fault}
 use Rattle.php_value.specs.declared.fault.Stopped.{Stopped}
-use Rattle.php_value.specs.declared.fault.Stopped.TheVariants.{Fault as Ends, Throws}
+use Rattle.php_value.specs.declared.fault.Stopped.TheVariants.{Fault as Ends}
 use Rattle.php_value.specs.declared.ordering.Order.{Order}
 use Rattle.php_value.specs.declared.ordering.Order.TheVariants.{Less, Same, More, Apart}
 

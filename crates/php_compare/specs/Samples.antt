@@ -1,5 +1,5 @@
 -- Values of all kinds in one memory, and how each compares with each.
-use Rattle.std.specs.Prelude.{◌≡◌, ℕ, zero, suc, ◌+◌, Bool, true, false, List, [], ◌∷◌, map, Option, Some, None, pos, negsuc, codes, Ok, Err}
+use Rattle.std.specs.Prelude.{◌≡◌, ℕ, ◌+◌, true, false, List, [], ◌∷◌, map, Option, Some, None, pos, negsuc, codes, Ok, Err}
 use Rattle.php_value.specs.declared.error_kind.TheConstants.ErrorKind.{NESTING_TOO_DEEP, OBJECT_AGAINST_STRING}
 use Rattle.php_value.specs.declared.fault.Fault.TheVariants.{FloatNeeded}
 use Rattle.php_value.specs.declared.fault.Stopped.TheVariants.{Fault as Ends, Throws}
@@ -8,7 +8,6 @@ use Rattle.php_value.specs.declared.key.Key.TheVariants as key
 use Rattle.php_value.specs.declared.ordering.Order.TheVariants.{Less, Same, More, Apart}
 use Rattle.php_entries.specs.Listing.{Entry}
 use Rattle.php_memdef.specs.declared.place.Seen.TheVariants.{Public}
-use Rattle.php_memdef.specs.Numbered.{Numbered}
 use Rattle.php_memdef.specs.Contents.{Content, null, truth, int, text, array, object, Property, Object, Mem, content_of}
 use Rattle.php_compare.specs.Outcomes.{Compared, Identified}
 use Rattle.php_compare.specs.Ordering.{order_in}

@@ -1,13 +1,13 @@
 -- One turn of the walk over two arrays.
-use Rattle.std.proofs.Common.{◌≡◌, ℕ, ◌+◌, ◌<◌, refl, sym, ◌∙◌, ap, List, [], ◌∷◌, length, Option, Some, None, Ok, Err, arith, subst}
+use Rattle.std.proofs.Common.{◌≡◌, ℕ, refl, sym, ◌∙◌, ap, List, [], ◌∷◌, length, Option, Some, None, Ok, Err, arith}
 use Rattle.std.specs.Prelude.{Bool, true, false, option_map}
 use Rattle.php_value.specs.declared.fault.Stopped.{Stopped}
 use Rattle.php_value.specs.declared.key.Key.{Key}
 use Rattle.php_value.specs.declared.ordering.Order.{Order}
 use Rattle.php_value.specs.Comparison.{is_same}
 use Rattle.php_entries.specs.Keys.{key_eq}
-use Rattle.php_entries.specs.Listing.{Entry, Listing, entry_at, value_at, count_of}
-use Rattle.php_entries.proofs.KeyLemmas.{key_eq-true, key_eq-self}
+use Rattle.php_entries.specs.Listing.{Entry, Listing, entry_at, value_at}
+use Rattle.php_entries.proofs.KeyLemmas.{key_eq-true}
 use Rattle.php_memdef.specs.declared.place.Place.{Place}
 use Rattle.php_memdef.specs.Contents.{Content, array, Mem, content_of}
 use Rattle.php_memdef.specs.Sound.{IsSound}

@@ -1,4 +1,3 @@
-pub mod GlanceLemmas
 pub mod WalkLemmas
 pub mod PlaceLemmas
 pub mod ObjectLemmas

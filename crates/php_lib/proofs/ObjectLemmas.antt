@@ -1,6 +1,6 @@
 -- A walk over the properties of a sound object.
 use Rattle.std.proofs.Common.{◌≡◌, inl, inr, ℕ, zero, suc, ◌+◌, ◌<◌, ◌≤◌, refl, sym, ◌∙◌, ap, List, [], ◌∷◌, drop, length, Bor, Option, Some, None, Ok, Err, arith, subst}
-use Rattle.std.specs.Prelude.{Bool, true, false, ◌&&◌, nat_eq, cond, option_map, is_some, IsSome, unwrap_or, option_copied}
+use Rattle.std.specs.Prelude.{Bool, true, false, ◌&&◌, nat_eq, cond, option_map, is_some, unwrap_or, option_copied}
 use Rattle.std.specs.Ordering.{nat_cmp}
 use Rattle.std.specs.Cmp.Lexicographic.{pointwise}
 use Rattle.std.specs.Cmp.{nat_cmp_is}
@@ -20,7 +20,7 @@ use Rattle.php_memdef.specs.Places.{seen_eq, prop_name_eq, property_store, store
 use Rattle.php_memdef.specs.Objects.{nth_property, property_name}
 use Rattle.php_memdef.specs.Views.{content_if_found, found}
 use Rattle.php_memdef.specs.Sound.{HasNoProperty, ArePropertiesDistinct, AreNamesShort, IsShort, IsSoundObject, IsSound}
-use Rattle.php_memdef.specs.Conditions.{IsObject, IsPlace}
+use Rattle.php_memdef.specs.Conditions.{IsPlace}
 use Rattle.php_memdef.specs.Meanings.{SomeMeant, EachMeant}
 use Rattle.php_value.specs.declared.fault.Stopped.{Stopped}
 use Rattle.php_value.specs.declared.ordering.Order.{Order}

@@ -1,5 +1,5 @@
 -- What comes first decides, and what a call comes to along equations.
-use Rattle.std.proofs.Common.{◌≡◌, ℕ, zero, suc, ◌-◌, ◌<◌, ◌≤◌, refl, sym, ◌∙◌, ap, List, [], ◌∷◌, Option, Some, None, Result, Ok, Err, arith, subst}
+use Rattle.std.proofs.Common.{◌≡◌, ℕ, zero, suc, ◌-◌, ◌<◌, refl, sym, ◌∙◌, ap, ◌∷◌, Option, Some, None, Result, Ok, Err, arith, subst}
 use Rattle.std.specs.Prelude.{Bool, true, false, option_map}
 use Rattle.php_value.specs.declared.fault.Stopped.{Stopped}
 use Rattle.php_value.specs.declared.fault.Stopped.TheVariants.{Fault as Ends, Throws, NoMemory}
@@ -10,17 +10,12 @@ use Rattle.std.proofs.lemmas.Bool.{false≢true}
 use Rattle.php_compare.specs.Places.{or_null}
 use Rattle.php_value.specs.declared.ordering.Order.TheVariants.{Less, Same, More, Apart}
 use Rattle.php_value.specs.Comparison.{is_same}
-use Rattle.php_memdef.specs.Contents.{Content, array, object, Mem, content_of}
+use Rattle.php_memdef.specs.Contents.{Content, Mem, content_of}
 use Rattle.php_compare.specs.Outcomes.{Compared, Identified, unless_same, and_then}
 use Rattle.php_compare.specs.Ordering.{Pairs, order_nested, order_in, order_by_rules, order_of_pairs}
 use Rattle.php_compare.specs.Identity.{same_nested, same_in, same_by_rules}
-use Rattle.php_entries.specs.Listing.{Listing}
-use Rattle.php_memdef.specs.declared.names.Obj.{Obj}
-use Rattle.php_lib.specs.declared.glance.Glance.{Glance}
-use Rattle.php_lib.specs.declared.glance.Glance.TheVariants.{Known, Refused, Arrays, Objects}
-use Rattle.php_lib.specs.Glances.{Tells}
 use Rattle.php_lib.specs.Answers.{ComesTo}
-use Rattle.php_lib.specs.Comparing.{order_of_found, goes_deeper}
+use Rattle.php_lib.specs.Comparing.{order_of_found}
 
 module _ {A : Type 0} where
   pub comes : (r w : Result A Stopped) → r ≡ w → ComesTo r w

@@ -1,15 +1,14 @@
 -- What stands under a place, and what may be looked at there.
-use Rattle.std.proofs.Common.{◌≡◌, inl, inr, ℕ, zero, suc, ◌+◌, ◌^◌, ◌<◌, ◌≤◌, refl, sym, ◌∙◌, ap, List, [], ◌∷◌, ◌++◌, Option, Some, None, arith, subst}
-use Rattle.std.specs.Prelude.{Bool, true, false, nat_lt, nat_eq, cond, option_map, find, IfSome, IfNone, IsSome, unwrap_or}
+use Rattle.std.proofs.Common.{◌≡◌, inl, inr, ℕ, zero, suc, ◌^◌, ◌<◌, ◌≤◌, refl, sym, ◌∙◌, ap, List, [], ◌∷◌, ◌++◌, Option, Some, None, arith, subst}
+use Rattle.std.specs.Prelude.{Bool, nat_lt, nat_eq, cond, option_map, find, unwrap_or}
 use Rattle.std.proofs.lemmas.Bool.{cases_Bool, eq-eqb}
 use Rattle.php_value.specs.declared.key.Key.{Key}
 use Rattle.php_entries.specs.Listing.{Entry, Listing, entry_at, value_at}
-use Rattle.php_memdef.specs.declared.place.Base.{Base}
 use Rattle.php_memdef.specs.declared.place.Step.{Step}
 use Rattle.php_memdef.specs.declared.place.Step.TheVariants.{At, Push}
 use Rattle.php_memdef.specs.declared.place.Place.{Place}
 use Rattle.php_memdef.specs.Numbered.{Numbered, numbered, total, weight_if}
-use Rattle.php_memdef.specs.Contents.{Content, null, truth, int, text, array, object, Item, value, link, Scope, Mem, content_of, scope_of, no_scope}
+use Rattle.php_memdef.specs.Contents.{Content, null, truth, int, text, array, object, Item, value, link, Scope, Mem, content_of, no_scope}
 use Rattle.php_memdef.specs.Holders.{times, handles_of_content, handles_of_items, handles_of_scope, object_holders}
 use Rattle.php_memdef.specs.Places.{Spot, stored, standing, stored_if, step_store_if, entry_store, elements_of, nth_item, content_if, content_at, next_spot, spot_along, base_spot, find_place}
 use Rattle.php_memdef.specs.Views.{content_if_found, found, elements_if_found, entry_if_later, later_entry}

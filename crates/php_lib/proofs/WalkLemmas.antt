@@ -1,7 +1,7 @@
 -- A walk over the entries of a sound array: what comes after a serial, and what is left behind it.
 use Rattle.std.proofs.Common.{◌≡◌, inl, inr, ℕ, ◌<◌, ◌≤◌, refl, sym, ◌∙◌, ap, List, [], ◌∷◌, Option, Some, None, arith, subst}
 use Rattle.std.specs.Prelude.{Bool, true, false, nat_lt, cond, option_map, find}
-use Rattle.std.proofs.lemmas.Bool.{cases_Bool, ltb-true, ltb-false}
+use Rattle.std.proofs.lemmas.Bool.{cases_Bool, ltb-true}
 use Rattle.std.proofs.lemmas.Bool.Decides.{nat_tests}
 use Rattle.php_value.specs.declared.key.Key.{Key}
 use Rattle.php_entries.specs.Keys.{key_eq}

@@ -1,5 +1,5 @@
 -- Places on the way of a comparison, and what may be compared.
-use Rattle.std.specs.Prelude.{ℕ, Bool, true, false, List, [], ◌∷◌, ◌++◌, Option, Some, None, Ok}
+use Rattle.std.specs.Prelude.{ℕ, Bool, true, false, [], ◌∷◌, ◌++◌, Option, Some, None, Ok}
 use Rattle.php_value.specs.declared.key.Key.{Key}
 use Rattle.php_value.specs.declared.ordering.Order.TheVariants.{Apart}
 use Rattle.php_memdef.specs.declared.names.Obj.{Obj}
@@ -7,7 +7,7 @@ use Rattle.php_memdef.specs.declared.place.PropName.{PropName}
 use Rattle.php_memdef.specs.declared.place.Base.TheVariants.{Property as OfObject}
 use Rattle.php_memdef.specs.declared.place.Step.TheVariants.{At}
 use Rattle.php_memdef.specs.declared.place.Place.{Place}
-use Rattle.php_memdef.specs.Contents.{Content, null, truth, int, text, array, object, Mem}
+use Rattle.php_memdef.specs.Contents.{Content, array, object, Mem}
 use Rattle.php_memdef.specs.Sound.{IsSound}
 use Rattle.php_memdef.specs.Conditions.{IsObject, IsPlace}
 use Rattle.php_compare.specs.Outcomes.{Compared}

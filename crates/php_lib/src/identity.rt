@@ -9,12 +9,11 @@ ghost use Rattle.php_compare.specs.Identity.{same_nested, same_by_rules, same_en
 ghost use Rattle.php_compare.specs.Places.{content_there, same_at};
 ghost use Rattle.php_lib.specs.Answers.{ComesTo};
 ghost use Rattle.php_lib.specs.Comparing.{CanCompare, goes_deeper};
-ghost use Rattle.php_lib.specs.Glances.{TellsLikeness};
+ghost use Rattle.php_glance.specs.Glances.{TellsLikeness};
 
-use crate::glance::{Likeness, identity_at_a_glance};
 use crate::ordering::LEVELS;
 use crate::places::{step_back, step_to};
-use crate::scalars::is_same_key;
+use php_glance::{Likeness, identity_at_a_glance, is_same_key};
 use php_memdef::{Memory, Place};
 use php_value::{ErrorKind, Stopped};
 use std::alloc::Global;

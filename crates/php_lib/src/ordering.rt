@@ -11,12 +11,11 @@ ghost use Rattle.php_compare.specs.Ordering.{order_nested, order_by_rules, order
 ghost use Rattle.php_compare.specs.Places.{content_there, order_at};
 ghost use Rattle.php_lib.specs.Answers.{ComesTo};
 ghost use Rattle.php_lib.specs.Comparing.{CanCompare, CanCompareObjects, order_of_found, goes_deeper};
-ghost use Rattle.php_lib.specs.Glances.{Tells};
+ghost use Rattle.php_glance.specs.Glances.{Tells};
 
-use crate::glance::{Glance, at_a_glance, is_missing};
 use crate::places::{property_place, step_back, step_to};
-use crate::scalars::{is_same, order_of_bools};
 use php_base::NoMemory;
+use php_glance::{Glance, at_a_glance, is_missing, is_same, order_of_bools};
 use php_memdef::{Memory, Obj, Place};
 use php_value::{ErrorKind, Order, Stopped};
 use std::alloc::Global;

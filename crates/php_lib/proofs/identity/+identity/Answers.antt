@@ -1,12 +1,10 @@
-use Rattle.std.proofs.Common.{◌≡◌, ℕ, ◌-◌, ◌^◌, ◌<◌, Some, None, Ok, refl, sym, ◌∙◌, ap, subst, rules, arith, List, [], length}
-use Rattle.php_entries.specs.Listing.{Entry, Listing}
+use Rattle.std.proofs.Common.{ℕ, ◌-◌, ◌^◌, ◌<◌, Ok, sym, ◌∙◌, ap, rules, arith, length}
+use Rattle.php_entries.specs.Listing.{Entry}
 use Rattle.php_memdef.specs.declared.place.Place.{Place}
-use Rattle.php_memdef.specs.Contents.{Mem, array}
 use Rattle.php_memdef.specs.Views.{found}
 use Rattle.php_compare.specs.Identity.{same_nested, same_entries}
 use Rattle.php_compare.specs.Places.{content_there}
 use Rattle.php_lib.specs.Comparing.{under}
-use Rattle.php_lib.proofs.GlanceLemmas.{stands, tells_likeness}
 use Rattle.php_lib.proofs.PlaceLemmas.{can_go_on, key_of_later}
 use Rattle.php_lib.proofs.OutcomeLemmas.{comes_along, residual, identity_too_deep, one_level_of_identity}
 use Rattle.php_lib.proofs.ElementLemmas.{all_later, other_key, as_many_left, value_differs, value_stops, value_same, none_to_match, none_left}
@@ -81,7 +79,7 @@ same_places-same_by_glance-requires g t c κs within = (
     (
       c.requires,
       λ m k.
-          rw c.identity_at_a_glance.ensures (tells_likeness (same_nested m (c.args.levels - 1)) m c.peek-left.result c.peek-right.result (content_there m c.args.a.now) (content_there m c.args.b.now) (stands c.peek-left.result (found m c.args.a.now) (c.peek-left.ensures m k)) (stands c.peek-right.result (found m c.args.b.now) (c.peek-right.ensures m k))),
+          c.identity_at_a_glance.ensures (same_nested m (c.args.levels - 1)) m (found m c.args.a.now) (found m c.args.b.now) (c.peek-left.ensures m k) (c.peek-right.ensures m k),
     ),
   ),
 )

@@ -1,15 +1,13 @@
-use Rattle.std.proofs.Common.{◌≡◌, ℕ, ◌-◌, ◌^◌, ◌<◌, Some, None, refl, sym, ◌∙◌, ap, subst, rules, arith, List, [], drop}
-use Rattle.php_entries.specs.Listing.{Entry, Listing}
+use Rattle.std.proofs.Common.{ℕ, ◌-◌, ◌^◌, ◌<◌, sym, ◌∙◌, ap, subst, rules, arith, List}
+use Rattle.php_entries.specs.Listing.{Entry}
 use Rattle.php_memdef.specs.declared.place.Place.{Place}
-use Rattle.php_memdef.specs.Contents.{Mem, Property, array, object_of}
+use Rattle.php_memdef.specs.Contents.{Property, object_of}
 use Rattle.php_memdef.specs.Views.{found}
 use Rattle.php_compare.specs.Ordering.{order_nested, order_of_pairs, element_pairs, property_pairs}
 use Rattle.php_compare.specs.Places.{content_there}
-use Rattle.php_lib.specs.declared.glance.Glance.{Glance}
-use Rattle.php_lib.specs.Glances.{Tells}
+use Rattle.php_glance.specs.declared.glance.Glance.{Glance}
+use Rattle.php_glance.specs.Glances.{Tells}
 use Rattle.php_lib.specs.Comparing.{under}
-use Rattle.php_lib.proofs.GlanceLemmas.{stands, there, tells}
-use Rattle.php_lib.proofs.WalkLemmas.{later}
 use Rattle.php_lib.proofs.PlaceLemmas.{can_go_on, key_of_later, objects_can}
 use Rattle.php_lib.proofs.ObjectLemmas.{can_look_at, no_more_properties, property_decides, property_stops, property_same}
 use Rattle.php_lib.proofs.OutcomeLemmas.{comes_along, residual, too_deep, level_below}
@@ -75,7 +73,7 @@ order_of_elements-returns g t c = λ m k sound x y e f.
 
 pub order_of_places-returns-then-levels-eq0 : goal.order_of_places-returns-then-levels-eq0
 order_of_places-returns-then-levels-eq0 g t c = λ m k sound.
-    too_deep m c.args.levels (found m c.args.a.now) (found m c.args.b.now) _ c.if-levels-eq0.true (there c.peek-right.result (found m c.args.b.now) (c.peek-right.ensures m k) (sym c.is_missing.ensures ∙ c.if-is_missing.false))
+    too_deep m c.args.levels (found m c.args.a.now) (found m c.args.b.now) _ c.if-levels-eq0.true (c.is_missing.ensures.there c.if-is_missing.false (found m c.args.b.now) (c.peek-right.ensures m k))
 
 pub order_of_places-order_by_glance-requires : goal.order_of_places-order_by_glance-requires
 order_of_places-order_by_glance-requires g t c κs within = (
@@ -85,14 +83,14 @@ order_of_places-order_by_glance-requires g t c κs within = (
     (
       c.requires,
       λ m k.
-          rw c.at_a_glance.ensures (tells (order_nested m (c.args.levels - 1)) m c.peek-left.result c.peek-right.result (content_there m c.args.a.now) (content_there m c.args.b.now) (stands c.peek-left.result (found m c.args.a.now) (c.peek-left.ensures m k)) (stands c.peek-right.result (found m c.args.b.now) (c.peek-right.ensures m k))),
+          c.at_a_glance.ensures (order_nested m (c.args.levels - 1)) m (found m c.args.a.now) (found m c.args.b.now) (c.peek-left.ensures m k) (c.peek-right.ensures m k),
     ),
   ),
 )
 
 pub order_of_places-returns : goal.order_of_places-returns
 order_of_places-returns g t c = λ m k sound.
-    comes_along c.order_by_glance.result _ _ (c.order_by_glance.ensures.value m k sound) (level_below m c.args.levels (found m c.args.a.now) (found m c.args.b.now) (omega arith) (there c.peek-right.result (found m c.args.b.now) (c.peek-right.ensures m k) (sym c.is_missing.ensures ∙ c.if-is_missing.false)))
+    comes_along c.order_by_glance.result _ _ (c.order_by_glance.ensures.value m k sound) (level_below m c.args.levels (found m c.args.a.now) (found m c.args.b.now) (omega arith) (c.is_missing.ensures.there c.if-is_missing.false (found m c.args.b.now) (c.peek-right.ensures m k)))
 
 pub order_of_properties-returns-in_default : goal.order_of_properties-returns-in_default
 order_of_properties-returns-in_default g t c = λ m k sound.

@@ -1,8 +1,6 @@
-use Rattle.std.proofs.Common.{◌≡◌, ℕ, length, sym, ◌∙◌, ap, arith}
-use Rattle.std.specs.Prelude.{is_some}
+use Rattle.std.proofs.Common.{sym, ◌∙◌, arith}
 use Rattle.php_memdef.specs.Contents.{object_of}
 use Rattle.php_memdef.specs.Objects.{property_name}
-use Rattle.php_memdef.specs.declared.place.PropName.{PropName}
 use Rattle.php_lib.proofs.ObjectLemmas.{copied_is_some, left_has_none, right_has_none, there_is_one}
 use Rattle.php_lib.proofs.ordering.order_of_property_counts.Goals as goal
 

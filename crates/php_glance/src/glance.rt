@@ -1,6 +1,10 @@
 // What a look at two values tells, before any of their parts is looked at.
-ghost use Rattle.std.specs.Prelude.{◌≡◌};
-ghost use Rattle.php_lib.specs.Glances.{truth_shown, glance_by, counted, at_a_glance, with_null, with_bool, with_int, with_text, with_array, with_object, like_null, like_bool, like_int, like_text, like_array, like_object, identity_at_a_glance, is_missing, order_of_int_and_text, order_of_text_and_int};
+ghost use Rattle.std.specs.Prelude.{◌≡◌, true, false, Option, Some, None};
+ghost use Rattle.php_memdef.specs.Contents.{Content, Mem};
+ghost use Rattle.php_memdef.specs.Views.{Shows};
+ghost use Rattle.php_compare.specs.Outcomes.{Compared, Identified};
+ghost use Rattle.php_compare.specs.Places.{or_null};
+ghost use Rattle.php_glance.specs.Glances.{truth_shown, glance_by, counted, at_a_glance, with_null, with_bool, with_int, with_text, with_array, with_object, like_null, like_bool, like_int, like_text, like_array, like_object, identity_at_a_glance, is_missing, order_of_int_and_text, order_of_text_and_int, Tells, TellsLikeness};
 
 use crate::scalars::{
     has_truth, number_of, order_by, order_of_bools, order_of_ints, order_of_texts,
@@ -149,9 +153,8 @@ fn with_object(left: Obj, right: &Peek<'_>) -> Glance
     }
 }
 
-/// What two values tell of their order. What is missing counts as null.
 #[tactic(auto, unfolding(crate::specs::Glances::at_a_glance))]
-pub fn at_a_glance(left: &Peek<'_>, right: &Peek<'_>) -> Glance
+fn look(left: &Peek<'_>, right: &Peek<'_>) -> Glance
     ensures { result ≡ at_a_glance left.now right.now }
 {
     match left {
@@ -231,9 +234,8 @@ fn like_object(left: Obj, right: &Peek<'_>) -> Likeness
     }
 }
 
-/// What two values tell of whether they are identical. What is missing counts as null.
 #[tactic(auto, unfolding(crate::specs::Glances::identity_at_a_glance))]
-pub fn identity_at_a_glance(left: &Peek<'_>, right: &Peek<'_>) -> Likeness
+fn look_for_identity(left: &Peek<'_>, right: &Peek<'_>) -> Likeness
     ensures { result ≡ identity_at_a_glance left.now right.now }
 {
     match left {
@@ -246,8 +248,31 @@ pub fn identity_at_a_glance(left: &Peek<'_>, right: &Peek<'_>) -> Likeness
     }
 }
 
+/// What two values tell of their order. What is missing counts as null.
+pub fn at_a_glance(left: &Peek<'_>, right: &Peek<'_>) -> Glance
+    ensures { (inner : Content → Content → Compared) (m : Mem) (c d : Option Content)
+        → Shows left.now c → Shows right.now d → Tells inner m (or_null c) (or_null d) result }
+{
+    look(left, right)
+}
+
+/// What two values tell of whether they are identical. What is missing counts as null.
+pub fn identity_at_a_glance(left: &Peek<'_>, right: &Peek<'_>) -> Likeness
+    ensures { (inner : Content → Content → Identified) (m : Mem) (c d : Option Content)
+        → Shows left.now c → Shows right.now d → TellsLikeness inner m (or_null c) (or_null d) result }
+{
+    look_for_identity(left, right)
+}
+
 /// Whether nothing stands there.
 pub fn is_missing(value: &Peek<'_>) -> bool
+    ensures missing { result ≡ true → (c : Option Content) → Shows value.now c → c ≡ None }
+    ensures there { result ≡ false → (c : Option Content) → Shows value.now c → c ≡ Some (or_null c) }
+{
+    is_nothing(value)
+}
+
+fn is_nothing(value: &Peek<'_>) -> bool
     ensures { result ≡ is_missing value.now }
 {
     matches!(value, Peek::Absent)

@@ -1,5 +1,5 @@
 -- What a look at two values tells, before their parts are looked at.
-use Rattle.std.specs.Prelude.{◌≡◌, ℕ, nat_eq, nat_lt, Bool, true, false, cond, ℤ, List, [], Option, Some, None, Result, Ok, Err}
+use Rattle.std.specs.Prelude.{◌≡◌, ℕ, nat_eq, nat_lt, Bool, true, false, cond, ℤ, List, [], Result, Ok, Err}
 use Rattle.std.specs.Ordering.{int_eq, nat_cmp}
 use Rattle.std.specs.Cmp.Lexicographic.{pointwise}
 use Rattle.php_value.specs.declared.fault.Fault.{Fault}
@@ -8,7 +8,7 @@ use Rattle.php_value.specs.declared.error_kind.TheConstants.ErrorKind.{OBJECT_AG
 use Rattle.php_value.specs.declared.ordering.Order.{Order}
 use Rattle.php_value.specs.declared.ordering.Order.TheVariants.{Less, Same, More, Apart}
 use Rattle.php_value.specs.declared.scalar.Scalar.TheVariants as scalar
-use Rattle.php_value.specs.Comparison.{order_by, order_of, order_of_bools, order_of_ints, order_of_texts, order_with_left, order_with_right}
+use Rattle.php_value.specs.Comparison.{order_by, order_of_bools, order_of_ints, order_of_texts, order_with_left, order_with_right}
 use Rattle.php_value.specs.Conversion.{bool_of, has_truth, int_of_form}
 use Rattle.php_value.specs.Form.{form_of}
 use Rattle.php_entries.specs.Listing.{Listing, count_of}
@@ -17,12 +17,12 @@ use Rattle.php_memdef.specs.declared.answer.Peek.{Peek}
 use Rattle.php_memdef.specs.declared.answer.Peek.TheVariants.{Absent, Null, Bool as Truth, Int, Str, Arr, Obj as Handle}
 use Rattle.php_memdef.specs.Contents.{Content, null, truth, int, text, array, object, Mem}
 use Rattle.php_compare.specs.Outcomes.{Compared, Identified}
-use Rattle.php_compare.specs.Ordering.{order_by_rules, order_of_arrays}
+use Rattle.php_compare.specs.Ordering.{order_by_rules}
 use Rattle.php_compare.specs.Identity.{bool_eq, same_by_rules}
-use Rattle.php_lib.specs.declared.glance.Glance.{Glance}
-use Rattle.php_lib.specs.declared.glance.Glance.TheVariants.{Known, Refused, Arrays, Objects}
-use Rattle.php_lib.specs.declared.glance.Likeness.{Likeness}
-use Rattle.php_lib.specs.declared.glance.Likeness.TheVariants as like
+use Rattle.php_glance.specs.declared.glance.Glance.{Glance}
+use Rattle.php_glance.specs.declared.glance.Glance.TheVariants.{Known, Refused, Arrays, Objects}
+use Rattle.php_glance.specs.declared.glance.Likeness.{Likeness}
+use Rattle.php_glance.specs.declared.glance.Likeness.TheVariants as like
 
 abbrev pub truth_shown : Peek → Bool
 truth_shown Absent = false

@@ -16,11 +16,11 @@ use Rattle.php_memdef.specs.Contents.{Content, null, truth, int, text, array, ob
 use Rattle.php_memdef.specs.Views.{Shows}
 use Rattle.php_compare.specs.Outcomes.{Compared, Identified, unless_same, and_then, or_ends}
 use Rattle.php_compare.specs.Ordering.{order_by_rules, order_of_pairs, element_pairs, order_of_members}
-use Rattle.php_compare.specs.Identity.{same_by_rules, same_entries}
+use Rattle.php_compare.specs.Identity.{same_entries}
 use Rattle.php_compare.specs.Places.{or_null}
-use Rattle.php_lib.specs.declared.glance.Glance.TheVariants.{Known, Refused, Arrays, Objects}
-use Rattle.php_lib.specs.declared.glance.Likeness.TheVariants as like
-use Rattle.php_lib.specs.Glances.{glance_by, counted, with_bool, with_null, with_int, with_text, with_array, with_object, at_a_glance, like_null, like_bool, like_int, like_text, like_array, like_object, identity_at_a_glance, is_missing, Stands, Tells, TellsLikeness}
+use Rattle.php_glance.specs.declared.glance.Glance.TheVariants.{Known, Objects}
+use Rattle.php_glance.specs.declared.glance.Likeness.TheVariants as like
+use Rattle.php_glance.specs.Glances.{glance_by, counted, with_bool, with_null, with_int, with_text, with_array, with_object, at_a_glance, like_null, like_bool, like_int, like_text, like_array, like_object, identity_at_a_glance, is_missing, Stands, Tells, TellsLikeness}
 
 pub stands : (p : Peek) (o : Option Content) → Shows p o → Stands p (or_null o)
 stands Absent o e = ap or_null e
