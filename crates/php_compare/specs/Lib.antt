@@ -1,0 +1,6 @@
+pub mod Outcomes
+pub mod Ordering
+pub mod Identity
+pub mod Places
+pub mod Samples
+pub mod Examples

@@ -1,0 +1,5 @@
+pub mod WalkLemmas
+pub mod PlaceLemmas
+pub mod ObjectLemmas
+pub mod OutcomeLemmas
+pub mod ElementLemmas
