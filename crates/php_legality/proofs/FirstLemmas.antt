@@ -46,6 +46,7 @@ wider_second x m xs (Some a) later h = (among h.0, each)
     among : Has (m ∷ xs) a → Has (m ∷ x ∷ xs) a
     among (inl is) = inl is
     among (inr has) = inr (inr has)
+
     each : (b : Fault) → Has (m ∷ x ∷ xs) b → IsNoLater a b
     each b (inl is) = h.1 b (inl is)
     each b (inr (inl is)) = subst (IsNoLater a) is (no_later_trans a m x (h.1 m (inl refl)) later)
