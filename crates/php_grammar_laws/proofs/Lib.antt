@@ -5,3 +5,5 @@ mod Begins
 mod Says
 mod statement
 mod declaration
+mod Lends
+mod Instances

@@ -3,3 +3,4 @@ pub mod Signatures
 pub mod Functions
 pub mod Members
 pub mod Scripts
+pub mod Walks

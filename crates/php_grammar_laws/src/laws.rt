@@ -14,6 +14,13 @@ ghost use Rattle.php_grammar_laws.specs.Signatures.{SignatureReadingBegins};
 ghost use Rattle.php_grammar_laws.specs.Signatures.{SignatureStopsExactly, UnfinishedSignature};
 ghost use Rattle.php_grammar_laws.specs.Statements.{StatementReadingBegins};
 ghost use Rattle.php_grammar_laws.specs.Statements.{StatementStopsExactly, UnfinishedStatement};
+ghost use Rattle.php_grammar_laws.specs.Walks.{FunctionSignatures, FunctionStatements};
+ghost use Rattle.php_grammar_laws.specs.Walks.{MembersLendConstants, MembersLendFunctions};
+ghost use Rattle.php_grammar_laws.specs.Walks.{MembersLendProperties};
+ghost use Rattle.php_grammar_laws.specs.Walks.{MethodSignatures, MethodStatements};
+ghost use Rattle.php_grammar_laws.specs.Walks.{ScriptsLendFunctions, ScriptsLendMembers};
+ghost use Rattle.php_grammar_laws.specs.Walks.{ScriptsLendStatements, SignaturesLend};
+ghost use Rattle.php_grammar_laws.specs.Walks.{StatementsLend};
 
 /// What a reading of a statement has read begins the spelling of a proper statement.
 pub fn statement_reading_begins()
@@ -128,4 +135,64 @@ pub fn unfinished_script()
 /// Where a reading of a script stops, the symbols begin no script with one more.
 pub fn script_stops_exactly()
     ensures { ScriptStopsExactly }
+{}
+
+/// The walk of an expression in a statement is the walk of the expression, and then what the statement does with it.
+pub fn statements_lend()
+    ensures { StatementsLend }
+{}
+
+/// The walk of the value of a parameter is the walk of the expression, and then what the signature does with it.
+pub fn signatures_lend()
+    ensures { SignaturesLend }
+{}
+
+/// The walk of a signature in a function is the walk of the signature, and then what the function does with it.
+pub fn functions_lend_signatures()
+    ensures { FunctionSignatures }
+{}
+
+/// The walk of a statement in the block of a function is the walk of the statement, and then what the function does with it.
+pub fn functions_lend_statements()
+    ensures { FunctionStatements }
+{}
+
+/// The walk of a signature in a method is the walk of the signature, and then what the method does with it.
+pub fn methods_lend_signatures()
+    ensures { MethodSignatures }
+{}
+
+/// The walk of a statement in the block of a method is the walk of the statement, and then what the method does with it.
+pub fn methods_lend_statements()
+    ensures { MethodStatements }
+{}
+
+/// The walk of a method in a member is the walk of the method.
+pub fn members_lend_functions()
+    ensures { MembersLendFunctions }
+{}
+
+/// The walk of the value of a class constant is the walk of the expression, and then what the member does with it.
+pub fn members_lend_constants()
+    ensures { MembersLendConstants }
+{}
+
+/// The walk of the value of a property is the walk of the expression, and then what the member does with it.
+pub fn members_lend_properties()
+    ensures { MembersLendProperties }
+{}
+
+/// The walk of a statement in a script is the walk of the statement, and then what the script does with it.
+pub fn scripts_lend_statements()
+    ensures { ScriptsLendStatements }
+{}
+
+/// The walk of a function in a script is the walk of the function, and then what the script does with it.
+pub fn scripts_lend_functions()
+    ensures { ScriptsLendFunctions }
+{}
+
+/// The walk of a member in a script is the walk of the member, and then what the script does with it.
+pub fn scripts_lend_members()
+    ensures { ScriptsLendMembers }
 {}

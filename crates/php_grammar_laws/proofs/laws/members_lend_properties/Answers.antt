@@ -1,0 +1,5 @@
+use Rattle.php_grammar_laws.proofs.Instances.{members_lend_properties}
+use Rattle.php_grammar_laws.proofs.laws.members_lend_properties.Goals as goal
+
+pub returns : goal.returns
+returns c = members_lend_properties
