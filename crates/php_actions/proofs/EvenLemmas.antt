@@ -64,6 +64,10 @@ use Rattle.php_actions.specs.PlaceForms.{size, Steps, steps, refused, missing, s
 use Rattle.php_actions.specs.Stack.{settled_if, tested, effect_stack}
 use Rattle.php_actions.specs.Places.{effect_place}
 use Rattle.php_actions.specs.Operators.{Computed, keys_of, keys_lacking, element, taken_over, united, finish_two, operated, united_or, elements_to_unite, operate_on, finish_one, int_of_content, as_text, sign_of, on_scalar, counted_by, differ, with_operand, with_two, texts_of, join_as, join_if, below, text_if, effect_operator}
+use Rattle.php_compare.specs.Ordering.{order_in}
+use Rattle.php_compare.specs.Identity.{same_in}
+use Rattle.php_actions.specs.declared.relation.Relation.TheVariants.{Equal}
+use Rattle.php_actions.specs.Comparisons.{compared_as, identical_as}
 use Rattle.php_actions.specs.Output.{with_out, with_text, effect_output}
 use Rattle.php_actions.specs.Names.{place_among, static, found_copy, constant_pushed, effect_name}
 use Rattle.php_actions.specs.Calls.{completes, effect_call}
@@ -279,6 +283,15 @@ module _ (n : ℕ) (q : ℕ → List ℕ → Type 0) (R : Move → Move → Type
   effect_operator-R : (a : OperatorAction) (f : Frame) (d : Data) → Q d → R (effect_operator a f d) (effect_operator a f (with_left n d))
   effect_operator-R (operators.Operate op) f d h =
       with_two-R (below 1 f d) (below 0 f d) (λ x y. operate_on op x y f d) (λ x y. operate_on op x y f (with_left n d)) (λ x y. united_or-R (elements_to_unite op x) (elements_to_unite op y) op x y f d h)
+  effect_operator-R (operators.Compare relation) f d h =
+      with_two-R (below 1 f d) (below 0 f d) (λ x y. finish_two (Some (compared_as relation (order_in d.mem x y))) f d) (λ x y. finish_two (Some (compared_as relation (order_in d.mem x y))) f (with_left n d))
+      (λ x y. finish_two-R (Some (compared_as relation (order_in d.mem x y))) f d h)
+  effect_operator-R (operators.Identical negated) f d h =
+      with_two-R (below 1 f d) (below 0 f d) (λ x y. finish_two (Some (identical_as negated (same_in d.mem x y))) f d) (λ x y. finish_two (Some (identical_as negated (same_in d.mem x y))) f (with_left n d))
+      (λ x y. finish_two-R (Some (identical_as negated (same_in d.mem x y))) f d h)
+  effect_operator-R operators.TestCase f d h =
+      with_two-R (below 1 f d) (below 0 f d) (λ x y. finish_one (Some (compared_as Equal (order_in d.mem x y))) f d) (λ x y. finish_one (Some (compared_as Equal (order_in d.mem x y))) f (with_left n d))
+      (λ x y. finish_one-R (Some (compared_as Equal (order_in d.mem x y))) f d h)
   effect_operator-R operators.ExclusiveOr f d h =
       with_two-R (below 1 f d) (below 0 f d) (λ x y. finish_two (Some (Ok (scalar.Bool (differ (truth_of x) (truth_of y))))) f d) (λ x y. finish_two (Some (Ok (scalar.Bool (differ (truth_of x) (truth_of y))))) f (with_left n d))
       (λ x y. finish_two-R (Some (Ok (scalar.Bool (differ (truth_of x) (truth_of y))))) f d h)

@@ -1,4 +1,5 @@
 pub mod Examples
+pub mod ComparisonExamples
 pub mod EvenLemmas
 pub mod OutputRules
 pub mod AllowanceRules

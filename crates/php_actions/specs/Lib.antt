@@ -5,6 +5,7 @@ pub mod Steps
 pub mod PlaceForms
 pub mod Stack
 pub mod Places
+pub mod Comparisons
 pub mod Operators
 pub mod Output
 pub mod Names
@@ -16,3 +17,4 @@ pub mod Plan
 pub mod Start
 pub mod Allowances
 pub mod Examples
+pub mod ComparisonExamples

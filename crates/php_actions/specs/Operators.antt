@@ -23,8 +23,12 @@ use Rattle.php_memdef.specs.Places.{elements_of}
 use Rattle.php_memdef.specs.Temporaries.{push_array, copy}
 use Rattle.php_machine.specs.Moves.{Wrong}
 use Rattle.php_actions.specs.declared.operators.OperatorAction.{OperatorAction}
-use Rattle.php_actions.specs.declared.operators.OperatorAction.TheVariants.{Operate, ExclusiveOr, ToBool, Not, ToInt, ToText, Sign, Complement, Count, Join}
+use Rattle.php_actions.specs.declared.operators.OperatorAction.TheVariants.{Operate, Compare, Identical, TestCase, ExclusiveOr, ToBool, Not, ToInt, ToText, Sign, Complement, Count, Join}
 use Rattle.php_actions.specs.Data.{Frame, Data, Move, on, with_mem, next_with}
+use Rattle.php_compare.specs.Ordering.{order_in}
+use Rattle.php_compare.specs.Identity.{same_in}
+use Rattle.php_actions.specs.declared.relation.Relation.TheVariants.{Equal}
+use Rattle.php_actions.specs.Comparisons.{compared_as, identical_as}
 use Rattle.php_actions.specs.Contents.{scalar_of, truth_of, text_of_content, number_of, has_entries}
 use Rattle.php_memdef.specs.Operations as op
 use Rattle.php_memdef.specs.Deciders.{can}
@@ -184,6 +188,9 @@ below n f d = operand d.mem f.block n
 
 abbrev pub effect_operator : OperatorAction → Frame → Data → Move
 effect_operator (Operate op) f d = with_two (below 1 f d) (below 0 f d) (λ x y. operate_on op x y f d)
+effect_operator (Compare relation) f d = with_two (below 1 f d) (below 0 f d) (λ x y. finish_two (Some (compared_as relation (order_in d.mem x y))) f d)
+effect_operator (Identical negated) f d = with_two (below 1 f d) (below 0 f d) (λ x y. finish_two (Some (identical_as negated (same_in d.mem x y))) f d)
+effect_operator TestCase f d = with_two (below 1 f d) (below 0 f d) (λ x y. finish_one (Some (compared_as Equal (order_in d.mem x y))) f d)
 effect_operator ExclusiveOr f d = with_two (below 1 f d) (below 0 f d) (λ x y. finish_two (Some (Ok (scalar.Bool (differ (truth_of x) (truth_of y))))) f d)
 effect_operator ToBool f d = with_operand (below 0 f d) (λ x. finish_one (Some (Ok (scalar.Bool (truth_of x)))) f d)
 effect_operator Not f d = with_operand (below 0 f d) (λ x. finish_one (Some (Ok (scalar.Bool (not (truth_of x))))) f d)

@@ -5,6 +5,7 @@ ghost use Rattle.php_actions.specs.declared.facts.Facts.{Facts};
 ghost use Rattle.php_actions.specs.Plan.{rules};
 ghost use Rattle.php_actions.specs.Allowances.{output_of, HasMoreTicks};
 ghost use Rattle.php_actions.specs.declared.ending.Ending.TheVariants.{Cut};
+ghost use Rattle.php_actions.specs.ComparisonExamples.{ComparisonExamples};
 ghost use Rattle.php_actions.specs.Examples.{StackExamples, PlaceExamples, OperatorExamples, OutputExamples, OtherExamples, PlanExamples, RunExamples};
 
 /// Actions, what comes between them, and small runs come to what they should.
@@ -16,6 +17,11 @@ pub fn worked_examples()
     ensures other { OtherExamples }
     ensures plan { PlanExamples }
     ensures runs { RunExamples }
+{}
+
+/// Comparisons come to what they should.
+pub fn worked_comparisons()
+    ensures { ComparisonExamples }
 {}
 
 /// No step takes back what was written, and data with more ticks left goes on in the same way until the other

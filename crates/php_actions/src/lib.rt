@@ -13,6 +13,7 @@ mod operators;
 mod output;
 mod place_form;
 mod places;
+mod relation;
 mod stack;
 
 pub use action::Action;
@@ -25,4 +26,5 @@ pub use operators::OperatorAction;
 pub use output::OutputAction;
 pub use place_form::{BaseForm, PlaceForm, StepForm};
 pub use places::PlaceAction;
+pub use relation::Relation;
 pub use stack::StackAction;

@@ -1,5 +1,6 @@
 // Actions that compute a value from others, which fall: of two the left one first.
 
+use crate::relation::Relation;
 use php_value::Op;
 
 #[derive(Drop)]
@@ -8,6 +9,14 @@ pub enum OperatorAction {
     /// `InexactQuotient`, `FloatNeeded`, `StringLimit`. An operand that is an array has the text `Array`, and
     /// no number.
     Operate(Op),
+    /// [x y] → [what is asked of their order]: a bool, or an int for `<=>`. Throws `OBJECT_AGAINST_STRING`,
+    /// `NESTING_TOO_DEEP`; fault `FloatNeeded`.
+    Compare(Relation),
+    /// [x y] → [whether they are identical, or whether they aren't]. Throws `NESTING_TOO_DEEP`.
+    Identical { negated: bool },
+    /// [x y] → [x, whether they are equal], and y falls: a value of a `case` against that of its `switch`. Throws and
+    /// faults as `Compare`.
+    TestCase,
     /// [x y] → [whether one alone is a truth]
     ExclusiveOr,
     /// [x] → [bool]
