@@ -1,3 +1,4 @@
 pub mod Examples
 pub mod FirstLemmas
 pub mod HasLemmas
+pub mod SequenceLemmas

@@ -18,7 +18,7 @@ pub record Scope : Type 0 where
   -- a function that returns nothing
   pub is_void : Bool
 
-abbrev outermost : Scope
+abbrev pub outermost : Scope
 outermost = record { in_class = false; in_function = false; is_void = false }
 
 abbrev class_scope : Scope
@@ -70,7 +70,7 @@ is_void_type (Some t) = not t.is_nullable && is_void_base t.base
     is_void_base of_array = false
     is_void_base of_callable = false
 
-abbrev body_scope : {S : Type 0} → Bool → Signature S → Scope
+abbrev pub body_scope : {S : Type 0} → Bool → Signature S → Scope
 body_scope in_class signature = record { in_class = in_class; in_function = true; is_void = is_void_type signature.result }
 
 -- a statement, what stands around it, and what its body belongs to
@@ -79,7 +79,7 @@ pub record Site (S : Type 0) : Type 0 where
   pub around : List Around
   pub statement : Statement S
 
-abbrev sites_in : {S : Type 0} → Scope → List (Inside S) → List (Site S)
+abbrev pub sites_in : {S : Type 0} → Scope → List (Inside S) → List (Site S)
 sites_in scope found = map (λ x. record { scope = scope; around = x.around; statement = x.statement }) found
 
 abbrev pub method_sites : {S : Type 0} → Method S → List (Site S)

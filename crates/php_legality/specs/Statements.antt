@@ -42,24 +42,24 @@ abbrev mutual
   inside_list around no_statement = []
   inside_list around (and_statement body s) = inside_list around body ++ record { around = around; statement = s } ∷ inside around s
 
-  inside_elseifs : {S : Type 0} → List Around → ElseIfs S → List (Inside S)
+  pub inside_elseifs : {S : Type 0} → List Around → ElseIfs S → List (Inside S)
   inside_elseifs around no_elseif = []
   inside_elseifs around (and_elseif parts test body) =
       inside_elseifs around parts ++ record { around = around; statement = body } ∷ inside around body
 
-  inside_elseif_lists : {S : Type 0} → List Around → ElseIfLists S → List (Inside S)
+  pub inside_elseif_lists : {S : Type 0} → List Around → ElseIfLists S → List (Inside S)
   inside_elseif_lists around no_elseif_list = []
   inside_elseif_lists around (and_elseif_list parts test body) = inside_elseif_lists around parts ++ inside_list around body
 
-  inside_body : {S : Type 0} → List Around → Body S → List (Inside S)
+  pub inside_body : {S : Type 0} → List Around → Body S → List (Inside S)
   inside_body around (single s) = record { around = around; statement = s } ∷ inside around s
   inside_body around (list_behind_colon body) = inside_list around body
 
-  inside_cases : {S : Type 0} → List Around → Cases S → List (Inside S)
+  pub inside_cases : {S : Type 0} → List Around → Cases S → List (Inside S)
   inside_cases around no_case = []
   inside_cases around (and_case cases at label end body) = inside_cases around cases ++ inside_list around body
 
-  inside_catches : {S : Type 0} → List Around → Catches S → List (Inside S)
+  pub inside_catches : {S : Type 0} → List Around → Catches S → List (Inside S)
   inside_catches around no_catch = []
   inside_catches around (and_catch catches classes variable body) = inside_catches around catches ++ inside_list around body
 

@@ -1,0 +1,7 @@
+mod LevelLemmas
+mod CountLemmas
+mod Weights
+mod Lists
+mod Views
+pub mod Bridge
+mod ScriptLemmas

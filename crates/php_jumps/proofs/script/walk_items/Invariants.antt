@@ -1,0 +1,7 @@
+use Rattle.std.proofs.Common.{◌≡◌, map, drop}
+use Rattle.php_ast.specs.declaration.View.{item_view}
+use Rattle.php_jumps.specs.Met.{over, met_item}
+use Rattle.php_jumps.proofs.script.walk_items.Given as goal
+
+abbrev pub invariant-loop-item : goal.invariant-loop-item
+invariant-loop-item l = over met_item (map item_view (drop l.item-index l.items)) l.first ≡ over met_item (map item_view l.items) l.fn.met
