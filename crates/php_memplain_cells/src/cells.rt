@@ -38,6 +38,7 @@ impl Cells {
         ensures objects { self.new.objects ≡ self.old.objects }
         ensures block { ContainsKey self.new.blocks block }
         ensures handle { HasNoHandle self.new block }
+        ensures ledger { self.new.ledger ≡ self.old.ledger }
     {
         self.blocks[block].next_fallen()
     }
@@ -50,6 +51,7 @@ impl Cells {
         ensures memory { memory_seen self.new ≡ releases.link_dropped (releases.is_held (memory_seen self.old) store) (memory_seen self.old) block (falling_in self.old block) store }
         ensures counted { IsCounted self.new }
         ensures block { ContainsKey self.new.blocks block }
+        ensures ledger { self.new.ledger ≡ self.old.ledger }
     {
         if let Some(content) = drop_link(&mut self.stores, store) {
             self.blocks[block].fall_first(content);
@@ -66,6 +68,7 @@ impl Cells {
             ≡ turn_of result (memory_seen self.new) }
         ensures counted { IsCounted self.new }
         ensures block { ContainsKey self.new.blocks block }
+        ensures ledger { self.new.ledger ≡ self.old.ledger }
     {
         match drop_handle(&mut self.objects, number) {
             Dropped::Held => None,
@@ -93,6 +96,7 @@ impl Cells {
         ensures turn { releases.turn (memory_seen self.old) block ≡ turn_of result (memory_seen self.new) }
         ensures counted { IsCounted self.new }
         ensures block { ContainsKey self.new.blocks block }
+        ensures ledger { self.new.ledger ≡ self.old.ledger }
     {
         match self.take_first(block) {
             First::Nothing => Some(Fallen::Nothing),
@@ -113,6 +117,7 @@ impl Cells {
         ensures falls { releases.fall (memory_seen self.old) block ≡ (memory_seen self.new, result) }
         ensures counted { IsCounted self.new }
         ensures block { ContainsKey self.new.blocks block }
+        ensures ledger { self.new.ledger ≡ self.old.ledger }
     {
         loop {
             if let Some(answer) = self.release_one(block) {

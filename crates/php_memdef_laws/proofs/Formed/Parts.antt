@@ -331,7 +331,7 @@ scalar_sound (scalar.Bool b) h = tt
 scalar_sound (scalar.Int i) h = h
 scalar_sound (scalar.Str bytes) h = h
 
-room_after_pop : (m : Mem) (b c : ℕ) → HasRoom m c → HasRoom (popped m b) c
+pub room_after_pop : (m : Mem) (b c : ℕ) → HasRoom m c → HasRoom (popped m b) c
 room_after_pop m b c h = elim (eqb_tells c b) [
   | inl e ↦ (let f : scope_of (popped m b) c ≡ record (scope_of m c) { temps = rest_of (scope_of m c).temps } = ap (scope_of (popped m b)) e.1 ∙ ap (λ o. unwrap_or o no_scope) (numbered-with_same m.blocks b (Some (record (scope_of m b) { temps = rest_of (scope_of m b).temps }))) ∙ ap (λ x. record (scope_of m x) { temps = rest_of (scope_of m x).temps }) (sym e.1) in subst (λ (x : Scope). length x.temps < x.room) (sym f) (omega (arith, h, rest_shorter (scope_of m c).temps)))
   | inr e ↦ (let f : scope_of (popped m b) c ≡ scope_of m c = ap (λ o. unwrap_or o no_scope) (numbered-with_other m.blocks b c (Some (record (scope_of m b) { temps = rest_of (scope_of m b).temps })) e.1) in subst (λ (x : Scope). length x.temps < x.room) (sym f) h)

@@ -26,5 +26,6 @@ pub loop-answer-preserved : goal.loop-answer-preserved
 loop-answer-preserved c = record {
   block = c.release_one.ensures.block;
   counted = c.release_one.ensures.counted;
+  ledger = c.release_one.ensures.ledger ∙ c.loop-answer.invariant.ledger;
   falls = c.loop-answer.invariant.falls ∙ goes_same (memory_seen c.loop-answer.self) (memory_seen c.release_one.new.self) c.args.block (c.release_one.ensures.turn ∙ ap (λ o. turn_of o (memory_seen c.release_one.new.self)) c.in_default.is);
 }

@@ -8,6 +8,7 @@ abbrev pub invariant-loop-answer : goal.invariant-loop-answer
 invariant-loop-answer l = record {
   block : ContainsKey l.self.blocks l.block;
   counted : IsCounted l.self;
+  ledger : l.self.ledger ≡ l.fn.self.ledger;
   falls : releases.fall (memory_seen l.fn.self) l.fn.block ≡ releases.fall (memory_seen l.self) l.block;
 }
 
