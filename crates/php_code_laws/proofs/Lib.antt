@@ -1,0 +1,4 @@
+pub mod ScopeLemmas
+pub mod MoveLemmas
+pub mod PlaceLemmas
+pub mod EndLemmas

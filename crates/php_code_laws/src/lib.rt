@@ -1,0 +1,4 @@
+// What holds of any code.
+#![tactic(auto)]
+
+pub mod laws;
