@@ -1,5 +1,5 @@
 -- Places on the way of a comparison, and what may be compared.
-use Rattle.std.specs.Prelude.{ℕ, Bool, true, false, [], ◌∷◌, ◌++◌, Option, Some, None, Ok}
+use Rattle.std.specs.Prelude.{ℕ, nat_eq, Bool, false, not, [], ◌∷◌, ◌++◌, Option, Some, None, Ok}
 use Rattle.php_value.specs.declared.key.Key.{Key}
 use Rattle.php_value.specs.declared.ordering.Order.TheVariants.{Apart}
 use Rattle.php_memdef.specs.declared.names.Obj.{Obj}
@@ -10,6 +10,7 @@ use Rattle.php_memdef.specs.declared.place.Place.{Place}
 use Rattle.php_memdef.specs.Contents.{Content, array, object, Mem}
 use Rattle.php_memdef.specs.Sound.{IsSound}
 use Rattle.php_memdef.specs.Conditions.{IsObject, IsPlace}
+use Rattle.php_entries.specs.Listing.{count_of}
 use Rattle.php_compare.specs.Outcomes.{Compared}
 use Rattle.php_compare.specs.Places.{or_null}
 
@@ -36,8 +37,13 @@ abbrev pub order_of_found : (Content → Content → Compared) → Option Conten
 order_of_found inner c None = Ok Apart
 order_of_found inner c (Some d) = inner (or_null c) d
 
--- both are arrays, or both are objects, whose parts are looked at
+-- two arrays of one count, or two objects: their parts are looked at
 abbrev pub goes_deeper : Content → Content → Bool
-goes_deeper (array s) (array t) = true
-goes_deeper (object g) (object h) = true
+goes_deeper (array s) (array t) = nat_eq (count_of s) (count_of t)
+goes_deeper (object g) (object h) = not (nat_eq g h)
 goes_deeper c d = false
+
+-- two arrays of one count: their entries are looked at
+abbrev pub has_entries_to_match : Content → Content → Bool
+has_entries_to_match (array s) (array t) = nat_eq (count_of s) (count_of t)
+has_entries_to_match c d = false

@@ -8,7 +8,7 @@ ghost use Rattle.php_memdef.specs.Views.{found};
 ghost use Rattle.php_compare.specs.Identity.{same_nested, same_by_rules, same_entries};
 ghost use Rattle.php_compare.specs.Places.{content_there, same_at};
 ghost use Rattle.php_lib.specs.Answers.{ComesTo};
-ghost use Rattle.php_lib.specs.Comparing.{CanCompare, goes_deeper};
+ghost use Rattle.php_lib.specs.Comparing.{CanCompare, has_entries_to_match};
 ghost use Rattle.php_glance.specs.Glances.{TellsLikeness};
 
 use crate::ordering::LEVELS;
@@ -27,7 +27,7 @@ pub fn same<M: Memory>(alloc: Global, memory: &M, a: &Place, b: &Place) -> Resul
     ensures value { EachMeant (M.means memory.now)
         (λ m. IsSound m → ComesTo result (same_at m a.now b.now)) }
     ensures takes_no_memory { EachMeant (M.means memory.now)
-        (λ m. goes_deeper (content_there m a.now) (content_there m b.now) ≡ false → result ≡ same_at m a.now b.now) }
+        (λ m. has_entries_to_match (content_there m a.now) (content_there m b.now) ≡ false → result ≡ same_at m a.now b.now) }
 {
     let left = memory.peek(a);
     let right = memory.peek(b);
@@ -57,7 +57,7 @@ fn same_by_glance<M: Memory>(
     ensures value { EachMeant (M.means memory.now)
         (λ m. IsSound m → ComesTo result (same_by_rules (same_nested m levels) m (content_there m a.now) (content_there m b.now))) }
     ensures takes_no_memory { EachMeant (M.means memory.now)
-        (λ m. goes_deeper (content_there m a.now) (content_there m b.now) ≡ false
+        (λ m. has_entries_to_match (content_there m a.now) (content_there m b.now) ≡ false
         → result ≡ same_by_rules (same_nested m levels) m (content_there m a.now) (content_there m b.now)) }
 {
     match likeness {
