@@ -28,7 +28,7 @@ use Rattle.php_parse_body.proofs.Wholes.{cancel}
 use Rattle.php_parse_signature.specs.declared.read.ReadSignature.{ReadSignature}
 use Rattle.php_parse_signature.specs.Answer.{StopsAt, Fails, signature_over, FoundSignature}
 use Rattle.php_parse_signature.specs.Exact.{Reaches, IsRead, IsSyntax, IsTooDeep, IsRefused}
-use Rattle.php_parse_signature.specs.Walk.{whole, walk}
+use Rattle.php_grammar_laws.specs.Walks.{whole, walk_signature}
 use Rattle.php_parse_signature.proofs.Blanks.{blank_signature}
 use Rattle.php_parse_signature.proofs.Moves.{sticks}
 use Rattle.php_parse_signature.proofs.Tells.{whole_walk, short_walk, deep_walk}
@@ -68,11 +68,11 @@ reaches tokens at k ahead within begins most = record {
 form_is : (tokens : List Token) (at : ℕ) (s : Signature Note) (f : Signature Nothing) → s ≡ noted_signature (notes_of tokens) at f → signature_form s ≡ f
 form_is tokens at s f shown = ap signature_form shown ∙ signature_again (notes_of tokens) no_notes at 0 f ∙ blank_signature 0 f
 
-colon_sticks : (b : Bool) (n : ℕ) (params : Params) (t : Symbol) (w : List Symbol) → is_colon t ≡ b → b ≡ false → walk n (past_params params) (t ∷ w) ≡ whole (signature_of params None) (t ∷ w)
+colon_sticks : (b : Bool) (n : ℕ) (params : Params) (t : Symbol) (w : List Symbol) → is_colon t ≡ b → b ≡ false → walk_signature n (past_params params) (t ∷ w) ≡ whole (signature_of params None) (t ∷ w)
 colon_sticks false n params t w is h = sticks n (past_params params) t w (ap (λ b. pick b (Some (due_result params)) None) is)
 colon_sticks true n params t w is h = cc
 
-over_by : (n : ℕ) (params : Params) (result : Declared) (w : List Symbol) → ResultEnds result w → walk n (signature_over params result) w ≡ whole (signature_of params result) w
+over_by : (n : ℕ) (params : Params) (result : Declared) (w : List Symbol) → ResultEnds result w → walk_signature n (signature_over params result) w ≡ whole (signature_of params result) w
 over_by n params None [] h = refl
 over_by n params None (t ∷ w) h = colon_sticks (is_colon t) n params t w refl h
 over_by n params (Some t) [] h = refl
@@ -83,7 +83,7 @@ over_by n params (Some t) (x ∷ w) h = refl
 pub is_read : (depth room n : ℕ) (tokens : List Token) (at : ℕ) (r : ReadSignature) → room ≡ suc n → n + depth ≡ 128 → FoundSignature room tokens at r → IsRead depth tokens at r.signature r.next
 is_read depth room n tokens at r room_is sum found =
     let at_k : at ≤ r.next = omega (arith, found.ahead) in
-    let walked : walk n due_signature (rest tokens at) ≡ whole found.form (rest tokens r.next) =
+    let walked : walk_signature n due_signature (rest tokens at) ≡ whole found.form (rest tokens r.next) =
     found.reads.same n room_is ∙ over_by n found.form.params found.form.result (rest tokens r.next) found.over in
     let w = whole_walk n (rest tokens at) (symbols tokens at r.next) (rest tokens r.next) found.form (split tokens at r.next at_k) walked in
     let form = form_is tokens at (signature_view r.signature) found.form found.shown in

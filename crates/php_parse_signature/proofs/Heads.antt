@@ -22,7 +22,8 @@ use Rattle.php_parse_signature.specs.declared.read.Front.{Front}
 use Rattle.php_parse_signature.specs.declared.read.Marked.{Marked}
 use Rattle.php_parse_signature.specs.declared.read.Typed.{Typed}
 use Rattle.php_parse_signature.specs.Answer.{NoType, NoBase, NoVariable, MayBegin, FoundDeclared, SeesMark, LacksName, FailsType, FailsParam, front_of, FoundFront}
-use Rattle.php_parse_signature.specs.Walk.{short, outcome, walk, Leads}
+use Rattle.php_grammar_laws.specs.Walks.{short, outcome, walk_signature}
+use Rattle.php_parse_signature.specs.Walk.{Leads}
 use Rattle.php_parse_signature.proofs.Moves.{go, sticks, nested, nested_halts}
 
 -- the state behind the type and the marks of a parameter
@@ -49,7 +50,7 @@ colon = punct mark.Colon
 abbrev pub marks : Bool → Bool → List Symbol → List Symbol
 marks is_reference is_variadic w = symbol_if is_reference ampersand (symbol_if is_variadic ellipsis w)
 
-untyped : (n : ℕ) (params : Params) (r v : Bool) (w : List Symbol) → walk (suc n) (due_param params) (marks r v w) ≡ walk (suc n) (fronted params None r v) w
+untyped : (n : ℕ) (params : Params) (r v : Bool) (w : List Symbol) → walk_signature (suc n) (due_param params) (marks r v w) ≡ walk_signature (suc n) (fronted params None r v) w
 untyped n params true true w =
     go (suc n) (due_param params) (past_reference params None) ampersand (ellipsis ∷ w) refl (omega arith)
     ∙ go (suc n) (past_reference params None) (past_variadic params None true) ellipsis w refl (omega arith)
@@ -58,7 +59,7 @@ untyped n params false true w = go (suc n) (due_param params) (past_variadic par
 untyped n params false false w = refl
 
 marked : (n : ℕ) (params : Params) (t : Type_of Nothing) (r v : Bool) (w : List Symbol)
-    → walk (suc n) (past_type params (Some t)) (marks r v w) ≡ walk (suc n) (fronted params (Some t) r v) w
+    → walk_signature (suc n) (past_type params (Some t)) (marks r v w) ≡ walk_signature (suc n) (fronted params (Some t) r v) w
 marked n params t true true w =
     go (suc n) (past_type params (Some t)) (past_reference params (Some t)) ampersand (ellipsis ∷ w) refl (omega arith)
     ∙ go (suc n) (past_reference params (Some t)) (past_variadic params (Some t) true) ellipsis w refl (omega arith)
@@ -93,22 +94,22 @@ due_base params base =
     ∙ ap (param_step params) (base_role base)
 
 type_read : (n : ℕ) (params : Params) (b : Bool) (base : Base Nothing) (w : List Symbol)
-    → walk (suc n) (due_param params) (spell_type (type_of b base) w) ≡ walk (suc n) (past_type params (Some (type_of b base))) w
+    → walk_signature (suc n) (due_param params) (spell_type (type_of b base) w) ≡ walk_signature (suc n) (past_type params (Some (type_of b base))) w
 type_read n params true base w =
     go (suc n) (due_param params) (past_question params) question (spell_base base w) refl (omega arith)
-    ∙ ap (walk (suc n) (past_question params)) (base_spelled base w)
+    ∙ ap (walk_signature (suc n) (past_question params)) (base_spelled base w)
     ∙ go (suc n) (past_question params) (past_type params (Some (type_of true base))) (base_symbol base) w (ap (question_step params) (base_role base)) (omega arith)
 type_read n params false base w =
-    ap (walk (suc n) (due_param params)) (base_spelled base w)
+    ap (walk_signature (suc n) (due_param params)) (base_spelled base w)
     ∙ go (suc n) (due_param params) (past_type params (Some (type_of false base))) (base_symbol base) w (due_base params base) (omega arith)
 
 pub front_read : (n : ℕ) (params : Params) (declared : Declared) (r v : Bool) (w : List Symbol)
-    → walk (suc n) (due_param params) (spell_declared declared (marks r v w)) ≡ walk (suc n) (fronted params declared r v) w
+    → walk_signature (suc n) (due_param params) (spell_declared declared (marks r v w)) ≡ walk_signature (suc n) (fronted params declared r v) w
 front_read n params None r v w = untyped n params r v w
 front_read n params (Some t) r v w = type_read n params t.is_nullable t.base (marks r v w) ∙ marked n params t r v w
 
 name_read : (n : ℕ) (params : Params) (declared : Declared) (r v : Bool) (text : List ℕ) (w : List Symbol)
-    → walk (suc n) (fronted params declared r v) (variable text ∷ w) ≡ walk (suc n) (past_param params (param_of declared r v (named_here text))) w
+    → walk_signature (suc n) (fronted params declared r v) (variable text ∷ w) ≡ walk_signature (suc n) (past_param params (param_of declared r v (named_here text))) w
 name_read n params declared r true text w =
     go (suc n) (past_variadic params declared r) (past_param params (param_of declared r true (named_here text))) (variable text) w refl (omega arith)
 name_read n params declared true false text w =
@@ -119,7 +120,7 @@ name_read n params None false false text w =
     go (suc n) (due_param params) (past_param params (param_of None false false (named_here text))) (variable text) w refl (omega arith)
 
 pub named : (n : ℕ) (params : Params) (declared : Declared) (r v : Bool) (text : List ℕ) (w : List Symbol)
-    → walk (suc n) (due_param params) (spell_declared declared (marks r v (variable text ∷ w))) ≡ walk (suc n) (past_param params (param_of declared r v (named_here text))) w
+    → walk_signature (suc n) (due_param params) (spell_declared declared (marks r v (variable text ∷ w))) ≡ walk_signature (suc n) (past_param params (param_of declared r v (named_here text))) w
 named n params declared r v text w = front_read n params declared r v (variable text ∷ w) ∙ name_read n params declared r v text w
 
 -- ---- where it stops
@@ -164,7 +165,7 @@ due_short empty w = refl
 due_short (then_also params p) w = refl
 
 front_none : (n : ℕ) (params : Params) (declared : Declared) (r v : Bool) (t : Symbol) (w : List Symbol) → Stuck declared r v (param_role t)
-    → (declared ≡ None → r ≡ false → v ≡ false → MayBegin params (t ∷ w)) → walk n (fronted params declared r v) (t ∷ w) ≡ short (t ∷ w)
+    → (declared ≡ None → r ≡ false → v ≡ false → MayBegin params (t ∷ w)) → walk_signature n (fronted params declared r v) (t ∷ w) ≡ short (t ∷ w)
 front_none n params declared r true t w h begin = sticks n (past_variadic params declared r) t w (variadic_none params declared r (param_role t) h.no_variable)
 front_none n params declared true false t w h begin =
     sticks n (past_reference params declared) t w (reference_none params declared (param_role t) h.no_variable (h.no_variadic refl))
@@ -176,7 +177,7 @@ front_none n params None false false t w h begin =
     ∙ due_short params (t ∷ w)
 
 front_short : (n : ℕ) (params : Params) (declared : Declared) (r v : Bool) (w : List Symbol) → Stuck declared r v (head_role w)
-    → (declared ≡ None → r ≡ false → v ≡ false → MayBegin params w) → walk n (fronted params declared r v) w ≡ short w
+    → (declared ≡ None → r ≡ false → v ≡ false → MayBegin params w) → walk_signature n (fronted params declared r v) w ≡ short w
 front_short n params declared r true [] h begin = refl
 front_short n params declared true false [] h begin = refl
 front_short n params (Some d) false false [] h begin = refl
@@ -184,7 +185,7 @@ front_short n params None false false [] h begin = due_short params []
 front_short n params declared r v (t ∷ w) h begin = front_none n params declared r v t w h begin
 
 pub unnamed : (n : ℕ) (params : Params) (declared : Declared) (r v : Bool) (w : List Symbol) → Stuck declared r v (head_role w)
-    → (declared ≡ None → r ≡ false → v ≡ false → MayBegin params w) → walk (suc n) (due_param params) (spell_declared declared (marks r v w)) ≡ short w
+    → (declared ≡ None → r ≡ false → v ≡ false → MayBegin params w) → walk_signature (suc n) (due_param params) (spell_declared declared (marks r v w)) ≡ short w
 unnamed n params declared r v w h begin = front_read n params declared r v w ∙ front_short (suc n) params declared r v w h begin
 
 -- a `?` without a type behind it
@@ -192,28 +193,28 @@ question_none : (params : Params) (x : ParamRole) → NoBase x → question_step
 question_none params (at_base base) h = absurd h
 question_none params _ h = refl
 
-question_short : (n : ℕ) (params : Params) (w : List Symbol) → NoBase (head_role w) → walk n (past_question params) w ≡ short w
+question_short : (n : ℕ) (params : Params) (w : List Symbol) → NoBase (head_role w) → walk_signature n (past_question params) w ≡ short w
 question_short n params [] h = refl
 question_short n params (t ∷ w) h = sticks n (past_question params) t w (question_none params (param_role t) h)
 
-pub typeless : (n : ℕ) (params : Params) (w : List Symbol) → NoBase (head_role w) → walk (suc n) (due_param params) (question ∷ w) ≡ short w
+pub typeless : (n : ℕ) (params : Params) (w : List Symbol) → NoBase (head_role w) → walk_signature (suc n) (due_param params) (question ∷ w) ≡ short w
 typeless n params w h = go (suc n) (due_param params) (past_question params) question w refl (omega arith) ∙ question_short (suc n) params w h
 
 -- ---- the result
 
-colon_read : (n : ℕ) (params : Params) (w : List Symbol) → walk n (past_params params) (colon ∷ w) ≡ walk n (due_result params) w
+colon_read : (n : ℕ) (params : Params) (w : List Symbol) → walk_signature n (past_params params) (colon ∷ w) ≡ walk_signature n (due_result params) w
 colon_read n params w = go n (past_params params) (due_result params) colon w refl (omega arith)
 
-asked_read : (n : ℕ) (params : Params) (w : List Symbol) → walk n (due_result params) (question ∷ w) ≡ walk n (past_result_question params) w
+asked_read : (n : ℕ) (params : Params) (w : List Symbol) → walk_signature n (due_result params) (question ∷ w) ≡ walk_signature n (past_result_question params) w
 asked_read n params w = go n (due_result params) (past_result_question params) question w refl (omega arith)
 
 pub result_read : (n : ℕ) (params : Params) (b : Bool) (base : Base Nothing) (w : List Symbol)
-    → walk n (past_params params) (colon ∷ spell_type (type_of b base) w) ≡ walk n (past_signature (signature_of params (Some (type_of b base)))) w
+    → walk_signature n (past_params params) (colon ∷ spell_type (type_of b base) w) ≡ walk_signature n (past_signature (signature_of params (Some (type_of b base)))) w
 result_read n params true base w =
-    colon_read n params (question ∷ spell_base base w) ∙ asked_read n params (spell_base base w) ∙ ap (walk n (past_result_question params)) (base_spelled base w)
+    colon_read n params (question ∷ spell_base base w) ∙ asked_read n params (spell_base base w) ∙ ap (walk_signature n (past_result_question params)) (base_spelled base w)
     ∙ go n (past_result_question params) (past_signature (signature_of params (Some (type_of true base)))) (base_symbol base) w (ap (nullable_result_step params) (base_role base)) (omega arith)
 result_read n params false base w =
-    colon_read n params (spell_base base w) ∙ ap (walk n (due_result params)) (base_spelled base w)
+    colon_read n params (spell_base base w) ∙ ap (walk_signature n (due_result params)) (base_spelled base w)
     ∙ go n (due_result params) (past_signature (signature_of params (Some (type_of false base)))) (base_symbol base) w (ap (result_step params) (base_role base)) (omega arith)
 
 result_none : (params : Params) (x : ParamRole) → NoType x → result_step params x ≡ None
@@ -225,18 +226,18 @@ nullable_none : (params : Params) (x : ParamRole) → NoBase x → nullable_resu
 nullable_none params (at_base base) h = absurd h
 nullable_none params _ h = refl
 
-result_short : (n : ℕ) (params : Params) (w : List Symbol) → NoType (head_role w) → walk n (due_result params) w ≡ short w
+result_short : (n : ℕ) (params : Params) (w : List Symbol) → NoType (head_role w) → walk_signature n (due_result params) w ≡ short w
 result_short n params [] h = refl
 result_short n params (t ∷ w) h = sticks n (due_result params) t w (result_none params (param_role t) h)
 
-nullable_short : (n : ℕ) (params : Params) (w : List Symbol) → NoBase (head_role w) → walk n (past_result_question params) w ≡ short w
+nullable_short : (n : ℕ) (params : Params) (w : List Symbol) → NoBase (head_role w) → walk_signature n (past_result_question params) w ≡ short w
 nullable_short n params [] h = refl
 nullable_short n params (t ∷ w) h = sticks n (past_result_question params) t w (nullable_none params (param_role t) h)
 
-pub no_result : (n : ℕ) (params : Params) (w : List Symbol) → NoType (head_role w) → walk n (past_params params) (colon ∷ w) ≡ short w
+pub no_result : (n : ℕ) (params : Params) (w : List Symbol) → NoType (head_role w) → walk_signature n (past_params params) (colon ∷ w) ≡ short w
 no_result n params w h = colon_read n params w ∙ result_short n params w h
 
-pub no_nullable : (n : ℕ) (params : Params) (w : List Symbol) → NoBase (head_role w) → walk n (past_params params) (colon ∷ question ∷ w) ≡ short w
+pub no_nullable : (n : ℕ) (params : Params) (w : List Symbol) → NoBase (head_role w) → walk_signature n (past_params params) (colon ∷ question ∷ w) ≡ short w
 no_nullable n params w h = colon_read n params (question ∷ w) ∙ asked_read n params w ∙ nullable_short n params w h
 
 -- ---- from what the parser saw
@@ -263,7 +264,7 @@ front_fails tokens at r a b (Syntax k) d x y lacks room low = λ params begin.
       no_type = λ n f g. subst (λ w. NoType (head_role w)) (d_plain f ∙ x_plain g) (d.untyped n);
     } in
     record {
-      halts = nested_halts false low (λ n is. ap (walk (suc n) (due_param params)) whole_is
+      halts = nested_halts false low (λ n is. ap (walk_signature (suc n) (due_param params)) whole_is
           ∙ unnamed n params d.form a.stands b.stands (rest tokens b.next) h
           (λ none f g. subst (MayBegin params) (undeclared d.form (rest tokens at) (rest tokens r.next) d.spelled none ∙ d_plain f ∙ x_plain g) begin)
           ∙ ap (λ j. short (rest tokens j)) (sym lacks.0));
@@ -275,7 +276,7 @@ front_fails tokens at r a b NoMemory d x y lacks room low = λ params begin. tt
 
 pub type_fails : (tokens : List Token) (at : ℕ) (e : Stop) → FailsType tokens at e → (room : ℕ) → 2 ≤ room → FailsParam room tokens at e
 type_fails tokens at (Syntax k) lacks room low = λ params begin. record {
-  halts = nested_halts false low (λ n is. ap (walk (suc n) (due_param params)) lacks.question ∙ typeless n params (rest tokens k) lacks.no_base);
+  halts = nested_halts false low (λ n is. ap (walk_signature (suc n) (due_param params)) lacks.question ∙ typeless n params (rest tokens k) lacks.no_base);
   ahead = lacks.ahead;
   within = lacks.within;
 }
@@ -285,4 +286,4 @@ type_fails tokens at NoMemory lacks room low = λ params begin. tt
 pub front_leads : (tokens : List Token) (at : ℕ) (r : Front) (f : FoundFront tokens at r) (room : ℕ) → 2 ≤ room → (params : Params)
     → Leads room (due_param params) (rest tokens at) (past_param params (front_of f.declared r f.text)) (rest tokens r.next)
 front_leads tokens at r f room low params =
-    nested low (λ n is. ap (walk (suc n) (due_param params)) f.spelled ∙ named n params f.declared r.is_reference r.is_variadic f.text (rest tokens r.next))
+    nested low (λ n is. ap (walk_signature (suc n) (due_param params)) f.spelled ∙ named n params f.declared r.is_reference r.is_variadic f.text (rest tokens r.next))

@@ -8,23 +8,24 @@ use Rattle.php_grammar.specs.declaration.SignatureMachine.{SignatureState, advan
 use Rattle.php_grammar.specs.declaration.Depth.{signature_depth_at}
 use Rattle.php_reader.specs.declared.fail.Stop.{Stop}
 use Rattle.php_reader.specs.declared.fail.Stop.TheVariants.{Syntax, TooDeep, NoMemory}
-use Rattle.php_parse_signature.specs.Walk.{deep, outcome, stepped, walk, Leads, Halts, stopped}
+use Rattle.php_grammar_laws.specs.Walks.{deep, outcome, stepped, walk_signature}
+use Rattle.php_parse_signature.specs.Walk.{Leads, Halts, stopped}
 use Rattle.php_parse_signature.specs.Answer.{Fails}
 
 -- ---- one symbol
 
-pub go : (n : ℕ) (m to : SignatureState) (t : Symbol) (w : List Symbol) → advance_signature m t ≡ Some to → signature_depth_at m t ≤ n → walk n m (t ∷ w) ≡ walk n to w
+pub go : (n : ℕ) (m to : SignatureState) (t : Symbol) (w : List Symbol) → advance_signature m t ≡ Some to → signature_depth_at m t ≤ n → walk_signature n m (t ∷ w) ≡ walk_signature n to w
 go n m to t w is shallow =
-    ap (λ o. stepped o (nat_lt n (signature_depth_at m t)) (λ x. walk n x w) (outcome (halt_signature m (t ∷ w))) (t ∷ w)) is
-    ∙ ap (λ b. stepped (Some to) b (λ x. walk n x w) (outcome (halt_signature m (t ∷ w))) (t ∷ w)) (le-ltb n (signature_depth_at m t) shallow)
+    ap (λ o. stepped o (nat_lt n (signature_depth_at m t)) (λ x. walk_signature n x w) (outcome (halt_signature m (t ∷ w))) (t ∷ w)) is
+    ∙ ap (λ b. stepped (Some to) b (λ x. walk_signature n x w) (outcome (halt_signature m (t ∷ w))) (t ∷ w)) (le-ltb n (signature_depth_at m t) shallow)
 
-pub sinks : (n : ℕ) (m to : SignatureState) (t : Symbol) (w : List Symbol) → advance_signature m t ≡ Some to → n < signature_depth_at m t → walk n m (t ∷ w) ≡ deep (t ∷ w)
+pub sinks : (n : ℕ) (m to : SignatureState) (t : Symbol) (w : List Symbol) → advance_signature m t ≡ Some to → n < signature_depth_at m t → walk_signature n m (t ∷ w) ≡ deep (t ∷ w)
 sinks n m to t w is below =
-    ap (λ o. stepped o (nat_lt n (signature_depth_at m t)) (λ x. walk n x w) (outcome (halt_signature m (t ∷ w))) (t ∷ w)) is
-    ∙ ap (λ b. stepped (Some to) b (λ x. walk n x w) (outcome (halt_signature m (t ∷ w))) (t ∷ w)) (lt-ltb n (signature_depth_at m t) below)
+    ap (λ o. stepped o (nat_lt n (signature_depth_at m t)) (λ x. walk_signature n x w) (outcome (halt_signature m (t ∷ w))) (t ∷ w)) is
+    ∙ ap (λ b. stepped (Some to) b (λ x. walk_signature n x w) (outcome (halt_signature m (t ∷ w))) (t ∷ w)) (lt-ltb n (signature_depth_at m t) below)
 
-pub sticks : (n : ℕ) (m : SignatureState) (t : Symbol) (w : List Symbol) → advance_signature m t ≡ None → walk n m (t ∷ w) ≡ outcome (halt_signature m (t ∷ w))
-sticks n m t w is = ap (λ o. stepped o (nat_lt n (signature_depth_at m t)) (λ x. walk n x w) (outcome (halt_signature m (t ∷ w))) (t ∷ w)) is
+pub sticks : (n : ℕ) (m : SignatureState) (t : Symbol) (w : List Symbol) → advance_signature m t ≡ None → walk_signature n m (t ∷ w) ≡ outcome (halt_signature m (t ∷ w))
+sticks n m t w is = ap (λ o. stepped o (nat_lt n (signature_depth_at m t)) (λ x. walk_signature n x w) (outcome (halt_signature m (t ∷ w))) (t ∷ w)) is
 
 -- ---- chains
 
@@ -36,17 +37,17 @@ pub leads_halts : {too_deep : Bool} {room : ℕ} {from : SignatureState} {w v u 
 leads_halts mid a b = record { same = λ n is. a.same n is ∙ b.same n is }
 
 -- in parentheses
-pub nested : {room : ℕ} {from to : SignatureState} {w v : List Symbol} → 2 ≤ room → ((n : ℕ) → room ≡ suc (suc n) → walk (suc n) from w ≡ walk (suc n) to v) → Leads room from w to v
+pub nested : {room : ℕ} {from to : SignatureState} {w v : List Symbol} → 2 ≤ room → ((n : ℕ) → room ≡ suc (suc n) → walk_signature (suc n) from w ≡ walk_signature (suc n) to v) → Leads room from w to v
 nested {room} {from} {to} {w} {v} low h = record { same = nested_by }
   where
-    nested_by : (n : ℕ) → room ≡ suc n → walk n from w ≡ walk n to v
+    nested_by : (n : ℕ) → room ≡ suc n → walk_signature n from w ≡ walk_signature n to v
     nested_by zero is = absurd (omega arith)
     nested_by (suc n) is = h n is
 
-pub nested_halts : {room : ℕ} (too_deep : Bool) {from : SignatureState} {w v : List Symbol} → 2 ≤ room → ((n : ℕ) → room ≡ suc (suc n) → walk (suc n) from w ≡ stopped too_deep v) → Halts too_deep room from w v
+pub nested_halts : {room : ℕ} (too_deep : Bool) {from : SignatureState} {w v : List Symbol} → 2 ≤ room → ((n : ℕ) → room ≡ suc (suc n) → walk_signature (suc n) from w ≡ stopped too_deep v) → Halts too_deep room from w v
 nested_halts {room} too_deep {from} {w} {v} low h = record { same = nested_by }
   where
-    nested_by : (n : ℕ) → room ≡ suc n → walk n from w ≡ stopped too_deep v
+    nested_by : (n : ℕ) → room ≡ suc n → walk_signature n from w ≡ stopped too_deep v
     nested_by zero is = absurd (omega arith)
     nested_by (suc n) is = h n is
 

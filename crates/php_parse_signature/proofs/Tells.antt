@@ -18,7 +18,7 @@ use Rattle.php_grammar.proofs.declaration.SignatureBack.{signatures_read_back}
 use Rattle.php_grammar.proofs.declaration.SignatureTrace.{signature_nesting}
 use Rattle.php_parse_body.proofs.Depths.{AllWithin, SinksAt}
 use Rattle.php_parse_body.proofs.Wholes.{cancel, take_front, within_most}
-use Rattle.php_parse_signature.specs.Walk.{whole, short, deep, walk}
+use Rattle.php_grammar_laws.specs.Walks.{whole, short, deep, walk_signature}
 use Rattle.php_parse_signature.proofs.Begun.{begun_on, begun_halts, HaltsWell}
 use Rattle.php_parse_signature.proofs.Walked.{run, depths, Reads, EndsIn, walks, begun_next, ends_whole, ends_short, ends_deep}
 
@@ -87,7 +87,7 @@ pub record WholeWalk (n : ℕ) (u y : List Symbol) (s : Signature Nothing) : Typ
   pub most : (t : Symbol) (v x : List Symbol) → y ≡ t ∷ v → BeginsSignature (u ++ t ∷ x) → ⊥
   pub shallow : (depth : ℕ) → n + depth ≡ 128 → AllWithin depth (signature_nests s 0 [])
 
-pub whole_walk : (n : ℕ) (w u y : List Symbol) (s : Signature Nothing) → w ≡ u ++ y → walk n due_signature w ≡ whole s y → WholeWalk n u y s
+pub whole_walk : (n : ℕ) (w u y : List Symbol) (s : Signature Nothing) → w ≡ u ++ y → walk_signature n due_signature w ≡ whole s y → WholeWalk n u y s
 whole_walk n w u y s split h =
     let k = walks n due_signature w in
     let e = ends_whole n k.to k.left s y (subst (λ o. EndsIn n k.to k.left o) h k.ends) in
@@ -109,7 +109,7 @@ pub record ShortWalk (n : ℕ) (u y : List Symbol) : Type 0 where
   pub unspelled : (s : Signature Nothing) → SpellsSignature s u → ⊥
   pub shallow : (depth k : ℕ) (s : Signature Nothing) (more : List Symbol) → n + depth ≡ 128 → length u ≡ k → SpellsSignature s (u ++ more) → AllWithin depth (take k (signature_nests s 0 []))
 
-pub short_walk : (n : ℕ) (w u y : List Symbol) → w ≡ u ++ y → walk n due_signature w ≡ short y → ShortWalk n u y
+pub short_walk : (n : ℕ) (w u y : List Symbol) → w ≡ u ++ y → walk_signature n due_signature w ≡ short y → ShortWalk n u y
 short_walk n w u y split h =
     let k = walks n due_signature w in
     let e = ends_short n k.to k.left y (subst (λ o. EndsIn n k.to k.left o) h k.ends) in
@@ -158,7 +158,7 @@ pub record Sunk (n : ℕ) (u y : List Symbol) : Type 0 where
   pub is : y ≡ token ∷ more
   pub walked : DeepWalk n u token
 
-pub deep_walk : (n : ℕ) (w u y : List Symbol) → w ≡ u ++ y → walk n due_signature w ≡ deep y → Sunk n u y
+pub deep_walk : (n : ℕ) (w u y : List Symbol) → w ≡ u ++ y → walk_signature n due_signature w ≡ deep y → Sunk n u y
 deep_walk n w u y split h =
     let k = walks n due_signature w in
     let e = ends_deep n k.to k.left y (subst (λ o. EndsIn n k.to k.left o) h k.ends) in

@@ -19,14 +19,15 @@ use Rattle.php_grammar.specs.statement.Role.{is_assign}
 use Rattle.php_grammar.specs.declaration.SignatureMachine.{Params, Declared, param_of, past_param, in_default}
 use Rattle.php_reader.specs.Seen.{Shows, rest}
 use Rattle.php_parse_signature.specs.Answer.{valued}
-use Rattle.php_parse_signature.specs.Walk.{walk, Leads}
+use Rattle.php_grammar_laws.specs.Walks.{walk_signature}
+use Rattle.php_parse_signature.specs.Walk.{Leads}
 use Rattle.php_parse_signature.proofs.Moves.{go, nested}
 use Rattle.php_parse_signature.proofs.Tokens.{assign_shown}
 
 pub assign_leads : (tokens : List Token) (at room : ℕ) (params : Params) (p : Param Nothing) → 2 ≤ room → Shows is_assign tokens at true
     → Leads room (past_param params p) (rest tokens at) (in_default params p (expects [])) (rest tokens (at + 1))
 assign_leads tokens at room params p low o =
-    nested low (λ n is. ap (walk (suc n) (past_param params p)) (assign_shown tokens at o)
+    nested low (λ n is. ap (walk_signature (suc n) (past_param params p)) (assign_shown tokens at o)
     ∙ go (suc n) (past_param params p) (in_default params p (expects [])) (punct mark.Assign) (rest tokens (at + 1)) refl (omega arith))
 
 pub valued_shown : (tokens : List Token) (at : ℕ) (declared : Option rust_type.Type) (r v : Bool) (name : rust_name.Name) (default : Option Expr) (d : Declared) (n : Name Nothing) (value : Option Form)

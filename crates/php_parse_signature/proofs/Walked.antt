@@ -9,7 +9,7 @@ use Rattle.php_grammar.specs.expression.Machine.{Nothing}
 use Rattle.php_grammar.specs.declaration.SignatureMachine.{SignatureState, advance_signature, halt_signature}
 use Rattle.php_grammar.specs.declaration.Depth.{signature_depth_at}
 use Rattle.php_parse_body.proofs.Walked.{AllAtMost}
-use Rattle.php_parse_signature.specs.Walk.{Outcome, whole, short, deep, outcome_of, outcome, stepped, walk}
+use Rattle.php_grammar_laws.specs.Walks.{OutcomeOf, whole, short, deep, outcome_by, outcome, stepped, walk_signature}
 use Rattle.php_parse_signature.proofs.Begun.{Begun, BegunIf, begun_on}
 
 abbrev pub run : SignatureState → List Symbol → ReadingOf (Signature Nothing)
@@ -28,13 +28,13 @@ pub record Reads (n : ℕ) (m : SignatureState) (done : List Symbol) (to : Signa
   pub begins : (f : List Symbol → List Symbol) → Begun m f → Begun to (λ z. f (done ++ z))
 
 -- what stops a walk in a state, in front of symbols
-abbrev pub EndsIn : ℕ → SignatureState → List Symbol → Outcome → Type 0
+abbrev pub EndsIn : ℕ → SignatureState → List Symbol → OutcomeOf (Signature Nothing) → Type 0
 EndsIn n to [] o = o ≡ outcome (halt_signature to [])
 EndsIn n to (t ∷ v) o =
     ((advance_signature to t ≡ None) × (o ≡ outcome (halt_signature to (t ∷ v))))
     ⊎ ((x : SignatureState) × (advance_signature to t ≡ Some x) × (n < signature_depth_at to t) × (o ≡ deep (t ∷ v)))
 
-pub record Walks (n : ℕ) (m : SignatureState) (w : List Symbol) (o : Outcome) : Type 0 where
+pub record Walks (n : ℕ) (m : SignatureState) (w : List Symbol) (o : OutcomeOf (Signature Nothing)) : Type 0 where
   pub done : List Symbol
   pub to : SignatureState
   pub left : List Symbol
@@ -60,7 +60,7 @@ reads_more n m x t done to is low r = record {
 }
 
 walks_by : (o : Option SignatureState) (b : Bool) (n : ℕ) (m : SignatureState) (t : Symbol) (w : List Symbol) → advance_signature m t ≡ o → nat_lt n (signature_depth_at m t) ≡ b
-    → ((x : SignatureState) → Walks n x w (walk n x w)) → Walks n m (t ∷ w) (stepped o b (λ x. walk n x w) (outcome (halt_signature m (t ∷ w))) (t ∷ w))
+    → ((x : SignatureState) → Walks n x w (walk_signature n x w)) → Walks n m (t ∷ w) (stepped o b (λ x. walk_signature n x w) (outcome (halt_signature m (t ∷ w))) (t ∷ w))
 walks_by None b n m t w is deep_is next = record { done = []; to = m; left = t ∷ w; split = refl; reads = reads_none n m; ends = inl (is, refl) }
 walks_by (Some x) true n m t w is deep_is next =
     record { done = []; to = m; left = t ∷ w; split = refl; reads = reads_none n m; ends = inr (x, is, ltb-true n (signature_depth_at m t) deep_is, refl) }
@@ -75,21 +75,21 @@ walks_by (Some x) false n m t w is deep_is next =
       ends = r.ends;
     }
 
-pub walks : (n : ℕ) (m : SignatureState) (w : List Symbol) → Walks n m w (walk n m w)
+pub walks : (n : ℕ) (m : SignatureState) (w : List Symbol) → Walks n m w (walk_signature n m w)
 walks n m [] = record { done = []; to = m; left = []; split = refl; reads = reads_none n m; ends = refl }
 walks n m (t ∷ w) = walks_by (advance_signature m t) (nat_lt n (signature_depth_at m t)) n m t w refl refl (λ x. walks n x w)
 
 -- ---- where a walk ends
 
-whole_by : (missing : List Symbol) (tree s : Signature Nothing) (unread y : List Symbol) → outcome_of missing tree unread ≡ whole s y → (missing ≡ []) × (tree ≡ s) × (unread ≡ y)
+whole_by : (missing : List Symbol) (tree s : Signature Nothing) (unread y : List Symbol) → outcome_by missing tree unread ≡ whole s y → (missing ≡ []) × (tree ≡ s) × (unread ≡ y)
 whole_by [] tree s unread y h = (refl, cc, cc)
 whole_by (t ∷ missing) tree s unread y h = absurd (cc)
 
-short_by : (missing : List Symbol) (tree : Signature Nothing) (unread y : List Symbol) → outcome_of missing tree unread ≡ short y → (missing ≢ []) × (unread ≡ y)
+short_by : (missing : List Symbol) (tree : Signature Nothing) (unread y : List Symbol) → outcome_by missing tree unread ≡ short y → (missing ≢ []) × (unread ≡ y)
 short_by [] tree unread y h = absurd (cc)
 short_by (t ∷ missing) tree unread y h = ((λ e. cc), cc)
 
-not_deep : (missing : List Symbol) (tree : Signature Nothing) (unread y : List Symbol) → deep y ≡ outcome_of missing tree unread → ⊥
+not_deep : (missing : List Symbol) (tree : Signature Nothing) (unread y : List Symbol) → deep y ≡ outcome_by missing tree unread → ⊥
 not_deep [] tree unread y h = cc
 not_deep (t ∷ missing) tree unread y h = cc
 

@@ -18,7 +18,8 @@ use Rattle.php_grammar.specs.expression.Role.{is_paren, is_colon}
 use Rattle.php_grammar.specs.declaration.SignatureMachine.{Params, Declared, due_signature, due_param, past_params, signature_of}
 use Rattle.php_reader.specs.Seen.{Shows, rest}
 use Rattle.php_parse_signature.specs.Answer.{signature_over}
-use Rattle.php_parse_signature.specs.Walk.{walk, Leads}
+use Rattle.php_grammar_laws.specs.Walks.{walk_signature}
+use Rattle.php_parse_signature.specs.Walk.{Leads}
 use Rattle.php_parse_signature.proofs.Heads.{result_read}
 use Rattle.php_parse_signature.proofs.Moves.{go}
 use Rattle.php_parse_signature.proofs.Tokens.{paren_shown, colon_shown}
@@ -28,7 +29,7 @@ use Rattle.php_parse_signature.proofs.Tokens.{paren_shown, colon_shown}
 pub result_leads : (tokens : List Token) (at next room : ℕ) (params : Params) (t : Type_of Nothing) → Shows is_colon tokens at true → rest tokens (at + 1) ≡ spell_type t (rest tokens next)
     → Leads room (past_params params) (rest tokens at) (signature_over params (Some t)) (rest tokens next)
 result_leads tokens at next room params t o spelled = record {
-  same = λ n is. ap (walk n (past_params params)) (colon_shown tokens at o ∙ ap (λ w. punct mark.Colon ∷ w) spelled) ∙ result_read n params t.is_nullable t.base (rest tokens next);
+  same = λ n is. ap (walk_signature n (past_params params)) (colon_shown tokens at o ∙ ap (λ w. punct mark.Colon ∷ w) spelled) ∙ result_read n params t.is_nullable t.base (rest tokens next);
 }
 
 -- ---- parameters one after the other
@@ -57,7 +58,7 @@ params_more tokens at next params p xs new x is before sized shown =
 
 pub opened : (tokens : List Token) (at room : ℕ) → Shows is_paren tokens at true → Leads room due_signature (rest tokens at) (due_param empty) (rest tokens (at + 1))
 opened tokens at room o = record {
-  same = λ n is. ap (walk n due_signature) (paren_shown tokens at o) ∙ go n due_signature (due_param empty) (punct mark.LeftParen) (rest tokens (at + 1)) refl (omega arith);
+  same = λ n is. ap (walk_signature n due_signature) (paren_shown tokens at o) ∙ go n due_signature (due_param empty) (punct mark.LeftParen) (rest tokens (at + 1)) refl (omega arith);
 }
 
 pub signature_shown : (tokens : List Token) (at : ℕ) (params : List rust_param.Param) (result : Option rust_type.Type) (ps : Params) (t : Declared)
