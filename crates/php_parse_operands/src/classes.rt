@@ -17,7 +17,7 @@ use php_build::build::{new_expr, new_with_expr};
 use php_lex::Tokens;
 use php_reader::Stop;
 use php_reader::limit::{LEAST_POWER, OPEN_NEW};
-use php_reader::look::{class_at, ends_with, name_at, next_at, spot, word_at};
+use php_reader::look::{class_at, closed_by, name_at, next_at, spot, word_at};
 use php_reader::role::{ClassKind, Closer, Next, Tail};
 use sqlite_items::Items;
 use std::alloc::Global;
@@ -74,8 +74,9 @@ impl<'t, R: ReadsInner> Parser<'t, R> {
             expr,
             edge: _,
             next,
+            behind,
         } = self.deeper(at + 1, LEAST_POWER)?;
-        if !ends_with(self.reader.tokens, next, Closer::Bracket) {
+        if !closed_by(behind, Closer::Bracket) {
             return Err(Stop::Syntax(next));
         }
         Ok(Entry {

@@ -25,7 +25,7 @@ use php_lex::Tokens;
 use php_reader::Stop;
 use php_reader::limit::{LEAST_POWER, OPEN_EXIT, TOP};
 use php_reader::look::{
-    ends_with, member_at, name_at, sees_paren, sees_right_paren, spot, text_at,
+    closed_by, member_at, name_at, sees_paren, sees_right_paren, spot, text_at,
 };
 use php_reader::role::{Closer, LeafKind, Opening};
 use std::alloc::Global;
@@ -80,7 +80,7 @@ impl<'t, R: ReadsInner> Parser<'t, R> {
         ensures { AnswersLeaf self.now.reader at result }
     {
         let inside = self.deeper(at + 1, LEAST_POWER)?;
-        if !ends_with(self.reader.tokens, inside.next, Closer::Paren) {
+        if !closed_by(inside.behind, Closer::Paren) {
             return Err(Stop::Syntax(inside.next));
         }
         Ok(Taken {
@@ -100,7 +100,7 @@ impl<'t, R: ReadsInner> Parser<'t, R> {
             return Err(Stop::Syntax(paren));
         }
         let inside = self.deeper(paren + 1, LEAST_POWER)?;
-        if !ends_with(self.reader.tokens, inside.next, Closer::Paren) {
+        if !closed_by(inside.behind, Closer::Paren) {
             return Err(Stop::Syntax(inside.next));
         }
         Ok(Taken {
@@ -134,7 +134,7 @@ impl<'t, R: ReadsInner> Parser<'t, R> {
             });
         }
         let inside = self.deeper(paren + 1, LEAST_POWER)?;
-        if !ends_with(self.reader.tokens, inside.next, Closer::Paren) {
+        if !closed_by(inside.behind, Closer::Paren) {
             return Err(Stop::Syntax(inside.next));
         }
         Ok(Taken {

@@ -52,7 +52,7 @@ loop-op-preserved g c =
     let v = c.loop-op.invariant in
     let p = pends_pop c.args.parser.now.reader.room c.args.least c.args.parser.now.reader.tokens.now c.args.at c.pop.new.self c.in-Some-pop.outer c.loop-op.inner v.inner_at c.requires.some c.requires.small
     (subst (λ ps. Pends c.args.parser.now.reader.room c.args.least c.args.parser.now.reader.tokens.now c.args.at ps c.loop-op.inner v.inner_at) c.in-Some-pop.ensures v.pends) in
-    let f = settled c.args.parser.now.reader.tokens.now v.inner_at c.loop-op.inner c.loop-op.read (rw c.in-None.is at c.operator_at.ensures) v.found in
+    let f = settled c.args.parser.now.reader.tokens.now v.inner_at c.loop-op.inner c.loop-op.read ((rw c.in-None.is at c.operator_of.ensures) _ _ v.found.follows) v.found in
     record {
       inner_at = p.outer_at;
       pends = p.pends;

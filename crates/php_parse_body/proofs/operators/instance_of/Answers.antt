@@ -26,6 +26,7 @@ returns g c = λ least near f start spans is.
           (b.role_is ∙ ap (λ k. opening_view k (token_at c.args.parser.now.reader.tokens.now (c.args.left.next + 1)).text) a.0) a.1 c.args.parser.now.deep;
       edge_is = sym c.instance_of_edge.ensures;
       rests = instance_rests (instance_of_static f tt) _ refl;
+      follows = c.next_at.ensures;
       bare = λ h. cc;
       ahead = omega arith;
       within = omega (arith, b.stands.within);

@@ -35,13 +35,14 @@ returns-in-Some-Assign g c =
 pub returns-in_ok-count_expr-in-Some-Count : goal.returns-in_ok-count_expr-in-Some-Count
 returns-in_ok-count_expr-in-Some-Count g c =
     let r = c.in_ok-left.ensures in
-    let d = rw c.in-Some-Count.field-0-is at (rw c.in-Some-Count.is at c.change_at.ensures) in
+    let d = (rw c.in-Some-Count.field-0-is at (rw c.in-Some-Count.is at c.change_of.ensures)) _ _ r.follows in
     record {
       form = count r.form c.in-Some-Count.count;
       spans = counted_spans c.args.parser.now.reader.tokens.now _ _ c.in-Some-Count.count r.form c.args.at _ c.in_ok-count_expr-in-Some-Count.ensures.shown r.spans;
       reads = leads (λ s. after r.form s) (weaken (omega arith) r.reads) (leads (λ s. holds r.form s) (settle r.form _ (omega arith)) (draw d.token (by_count c.in-Some-Count.count) r.form d.stands.is d.role_is (omega arith) (omega (arith, r.opened)) c.args.parser.now.deep));
       edge_is = refl;
       rests = rests_same free _;
+      follows = c.next_at.ensures;
       bare = λ h. cc;
       ahead = omega (arith, r.ahead);
       within = omega (arith, d.stands.within);
@@ -51,13 +52,14 @@ returns-in_ok-count_expr-in-Some-Count g c =
 pub returns-in-None : goal.returns-in-None
 returns-in-None g c =
     let r = c.in_ok-left.ensures in
-    let d = rw c.in-None.is at c.change_at.ensures in
+    let d = (rw c.in-None.is at c.change_of.ensures) _ _ r.follows in
     record {
       form = r.form;
       spans = r.spans;
       reads = leads (λ s. after r.form s) (weaken (omega arith) r.reads) (settle r.form _ (omega arith));
       edge_is = r.edge_is;
       rests = d _ r.rests;
+      follows = r.follows;
       bare = λ h. let b = (open_by_ends r.form (omega (arith, r.opened))).not_bare in cc;
       ahead = r.ahead;
       within = r.within;

@@ -55,14 +55,14 @@ returns-in_err-inside g c =
     rw (q.1, q.2) (between c.args.self.now.reader.tokens.now c.args.at (c.args.at + 1 + 1) (enclosed_open exiting) c.in_err-inside.field-0.0 (omega arith) c.args.self.now.deep refl (λ d. refl)
     (exit_opens o.token p.token o.stands.is o.role_is p.stands.is p.role_is c.if-sees_right_paren.ensures c.args.self.now.deep) c.in_err-inside.ensures)
 
-pub returns-then-not-ends_with : goal.returns-then-not-ends_with
-returns-then-not-ends_with g c =
+pub returns-then-not-closed_by : goal.returns-then-not-closed_by
+returns-then-not-closed_by g c =
     let r = c.in_ok-inside.ensures in
     let o = c.requires.here in
     let p = c.if-not-sees_paren.ensures in
     let deep = c.args.self.now.deep in
     record {
-      halts = enclosed_unclosed exiting deep (exit_opens o.token p.token o.stands.is o.role_is p.stands.is p.role_is c.if-sees_right_paren.ensures deep) r.reads r.rests (c.if-not-ends_with.ensures.no refl);
+      halts = enclosed_unclosed exiting deep (exit_opens o.token p.token o.stands.is o.role_is p.stands.is p.role_is c.if-sees_right_paren.ensures deep) r.reads r.rests (c.if-not-closed_by.ensures.no refl _ _ r.follows);
       ahead = omega (arith, r.ahead);
       within = r.within;
     }
@@ -72,7 +72,7 @@ returns g c =
     let r = c.in_ok-inside.ensures in
     let o = c.requires.here in
     let p = c.if-not-sees_paren.ensures in
-    let e = c.if-not-ends_with.ensures.yes refl in
+    let e = c.if-not-closed_by.ensures.yes refl _ _ r.follows in
     let deep = c.args.self.now.deep in
     record {
       form = enclosed tt exiting r.form;
