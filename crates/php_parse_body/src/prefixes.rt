@@ -1,6 +1,6 @@
 // What may stand wherever an operand may: an operand alone, counted or assigned, a prefix operator, `yield`.
 
-ghost use Rattle.std.specs.Prelude.{◌≡◌, ◌≤◌, ◌<◌, ◌+◌, ◌-◌, ◌^◌, ℕ, List, suc, length, true, false};
+ghost use Rattle.std.specs.Prelude.{◌≡◌, ◌≢◌, ◌≤◌, ◌<◌, ◌+◌, ◌-◌, ◌^◌, ℕ, List, suc, length, true, false};
 ghost use Rattle.php_token.specs.Token.{Token, token_at};
 ghost use Rattle.php_ast.specs.expression.Tree.{colons};
 ghost use Rattle.php_ast.specs.Power.{assign_row, yield_power};
@@ -29,13 +29,27 @@ use php_reader::look::{closed_by, next_at, sees_ampersand, spot, start_at};
 use php_reader::role::{Closer, Next, Opening, Start, Tail};
 use std::alloc::Global;
 
-/// Whether `static` stands alone, with no `::` behind it.
-pub(crate) fn lacks_colons(tokens: &Tokens, at: usize, opening: Opening) -> bool
+/// Whether a token that does this is `::`.
+fn names_member(behind: Next) -> bool
+    ensures yes { result ≡ true → next_view behind ≡ draws (role.by_select colons) }
+    ensures no { result ≡ false → next_view behind ≢ draws (role.by_select colons) }
+{
+    matches!(behind, Next::Suffix(Tail::Member))
+}
+
+/// What the token behind a `static` does that stands alone, with no `::` behind it.
+pub(crate) fn static_alone(tokens: &Tokens, at: usize, opening: Opening) -> Option<Next>
     requires { at + 1 < 2 ^ 64 }
     ensures { SeesStatic tokens.now at opening result }
 {
-    matches!(opening, Opening::Static)
-        && !matches!(next_at(tokens, at + 1), Next::Suffix(Tail::Member))
+    if !matches!(opening, Opening::Static) {
+        return None;
+    }
+    let behind = next_at(tokens, at + 1);
+    if names_member(behind) {
+        return None;
+    }
+    Some(behind)
 }
 
 /// Whether a `yield` stands alone in front of a token that does this.
@@ -160,7 +174,7 @@ fn changed_operand<R: ReadsInner>(
     requires here { Shows beginning parser.now.reader.tokens.now at (opening_view opening (token_at parser.now.reader.tokens.now at).text) }
     ensures { AnswersHere parser.now.reader free free at result }
 {
-    if lacks_colons(parser.reader.tokens, at, opening) {
+    if let Some(_) = static_alone(parser.reader.tokens, at, opening) {
         return Err(Stop::Syntax(at + 1));
     }
     let left = parser.operand(at, opening)?;

@@ -91,6 +91,7 @@ pub record FoundLeaf (room : ℕ) (tokens : List Token) (at : ℕ) (r : Taken) :
   pub edge_is : ends form ≡ r.edge
   pub opened : free < ends form
   pub no_call : is_call form ≡ false
+  pub follows : Follows tokens r.next (next_view r.behind)
   pub ahead : at < r.next
   pub within : r.next ≤ length tokens
 

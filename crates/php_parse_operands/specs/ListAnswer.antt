@@ -162,7 +162,7 @@ is_found (tree.class_found steps) = true
 is_found _ = false
 
 -- from a state before the class
-pub record FoundClass (from : OpenForms → State) (room : ℕ) (tokens : List Token) (at : ℕ) (r : Entry (Class Expr)) : Type 0 where
+pub record FoundClass (from : OpenForms → State) (room : ℕ) (tokens : List Token) (at : ℕ) (r : Element (Class Expr)) : Type 0 where
   pub class : tree.Class Nothing
   pub shown : shown.class_view (class_with view r.item) ≡ noted_class (notes_of tokens) at class
   pub sized : at + size_class class ≡ r.next
@@ -170,10 +170,11 @@ pub record FoundClass (from : OpenForms → State) (room : ℕ) (tokens : List T
   pub reads : Leads room top from (rest tokens at) (λ s. past_class class s) (rest tokens r.next)
   pub no_index : is_found class ≡ true → head_continuation (rest tokens r.next) ≢ draws role.by_index
   pub no_arrow : is_found class ≡ true → head_continuation (rest tokens r.next) ≢ draws (role.by_select tree.thin)
+  pub follows : Follows tokens r.next (next_view r.behind)
   pub ahead : at < r.next
   pub within : r.next ≤ length tokens
 
-abbrev pub AnswersClass : Reader → ℕ → Result (Entry (Class Expr)) Stop → Type 0
+abbrev pub AnswersClass : Reader → ℕ → Result (Element (Class Expr)) Stop → Type 0
 AnswersClass reader at (Ok r) = FoundClass (λ s. past_new s) reader.room reader.tokens.now at r
 AnswersClass reader at (Err e) = Fails reader.room top (λ s. past_new s) (rest reader.tokens.now at) reader.tokens.now at e
 

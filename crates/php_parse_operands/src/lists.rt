@@ -168,6 +168,7 @@ impl<'t, R: ReadsInner> Parser<'t, R> {
         let values = self.values(paren + 1)?;
         Ok(Taken {
             next: values.next,
+            behind: next_at(self.reader.tokens, values.next),
             expr: is_set_expr(spot(self.reader.tokens, at), values.items),
             edge: TOP,
         })
@@ -294,6 +295,7 @@ impl<'t, R: ReadsInner> Parser<'t, R> {
         let items = self.items(at + 1, ArrayForm::Brackets)?;
         Ok(Taken {
             next: items.next,
+            behind: next_at(self.reader.tokens, items.next),
             expr: array_expr(
                 spot(self.reader.tokens, at),
                 ArrayForm::Brackets,
@@ -316,6 +318,7 @@ impl<'t, R: ReadsInner> Parser<'t, R> {
         let items = self.items(paren + 1, form)?;
         Ok(Taken {
             next: items.next,
+            behind: next_at(self.reader.tokens, items.next),
             expr: array_expr(spot(self.reader.tokens, at), form, items.items),
             edge: TOP,
         })

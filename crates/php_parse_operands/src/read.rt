@@ -23,6 +23,7 @@ pub(crate) struct Taken {
     pub(crate) expr: Expr,
     pub(crate) edge: u8,
     pub(crate) next: usize,
+    pub(crate) behind: Next,
     ghost flat: { is_flat_leaf expr ≡ true },
 }
 
@@ -54,7 +55,7 @@ pub(crate) struct Listed<T> {
     pub(crate) next: usize,
 }
 
-/// An argument or an item, the place behind it, and what the token there does.
+/// One part of a list or of a `new`, the place behind it, and what the token there does.
 #[derive(Drop)]
 pub(crate) struct Element<T> {
     pub(crate) item: T,

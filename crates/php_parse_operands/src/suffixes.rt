@@ -175,10 +175,10 @@ impl<'t, R: ReadsInner> Parser<'t, R> {
             expr: first,
             mut edge,
             mut next,
+            mut behind,
         } = self.leaf(at, opening)?;
         let mut suffixes = Items::new(self.reader.alloc);
         let mut is_call = false;
-        let mut behind = next_at(self.reader.tokens, next);
         while let Some(tail) = suffix_of(behind, edge) {
             let found = self.suffix(next, tail)?;
             suffixes.push(found.suffix)?;

@@ -1,7 +1,8 @@
-use Rattle.std.proofs.Common.{◌∙◌, refl, arith, ap}
+use Rattle.std.proofs.Common.{◌+◌, ◌∙◌, refl, arith, ap, sym}
 use Rattle.std.proofs.lemmas.Result.{err_from_is_err_and}
 use Rattle.php_ast.specs.expression.Proper.{free, top}
 use Rattle.php_parse_operands.proofs.Fails.{fewer}
+use Rattle.php_parse_operands.proofs.Heads.{follows_head}
 use Rattle.php_token.specs.Token.{token_at}
 use Rattle.php_grammar.specs.expression.Role.{by_count}
 use Rattle.php_ast.specs.expression.Tree.{count}
@@ -14,11 +15,11 @@ use Rattle.php_parse_body.proofs.Founds.{behind, static_alone}
 use Rattle.php_parse_body.proofs.Joins.{rests_same, counted_spans}
 use Rattle.php_parse_body.proofs.prefixes.changed_operand.Goals as goal
 
-pub returns-then-lacks_colons : goal.returns-then-lacks_colons
-returns-then-lacks_colons g c =
+pub returns-in-Some : goal.returns-in-Some
+returns-in-Some g c =
     let o = c.requires.here in
-    let a = c.if-lacks_colons.ensures in
-    record { halts = static_alone o.token o.stands.is (o.role_is ∙ ap (λ b. opening_view b (token_at c.args.parser.now.reader.tokens.now c.args.at).text) a.0) a.1 c.args.parser.now.deep; ahead = omega arith; within = omega (arith, o.stands.within) }
+    let a = rw c.in-Some.is at c.static_alone.ensures in
+    record { halts = static_alone o.token o.stands.is (o.role_is ∙ ap (λ b. opening_view b (token_at c.args.parser.now.reader.tokens.now c.args.at).text) a.0) (λ e. a.1.0 (sym (follows_head c.args.parser.now.reader.tokens.now (c.args.at + 1) _ a.1.1) ∙ e)) c.args.parser.now.deep; ahead = omega arith; within = omega (arith, o.stands.within) }
 
 pub returns-in_err-left : goal.returns-in_err-left
 returns-in_err-left g c =

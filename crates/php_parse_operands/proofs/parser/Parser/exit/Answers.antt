@@ -16,6 +16,7 @@ returns-then-not-sees_paren g c =
       edge_is = refl;
       opened = omega arith;
       no_call = refl;
+      follows = c.next_at.ensures;
       ahead = omega arith;
       within = omega (arith, o.stands.within);
     }
@@ -43,6 +44,7 @@ returns-then-sees_right_paren g c =
       edge_is = refl;
       opened = omega arith;
       no_call = refl;
+      follows = c.next_at-then-sees_right_paren.ensures;
       ahead = omega arith;
       within = omega (arith, e.stands.within);
     }
@@ -81,6 +83,7 @@ returns g c =
       edge_is = refl;
       opened = omega arith;
       no_call = refl;
+      follows = c.next_at-2.ensures;
       ahead = omega (arith, r.ahead);
       within = omega (arith, e.stands.within);
     }

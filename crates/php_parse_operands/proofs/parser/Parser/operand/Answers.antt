@@ -31,7 +31,7 @@ loop-tail-init g c =
         within = r.within;
       },
       c.in_ok-first.field-0.flat,
-      c.next_at-behind.ensures,
+      r.follows,
     )
 
 pub returns-in_err-found : goal.returns-in_err-found
@@ -59,7 +59,7 @@ loop-tail-preserved g c =
         within = r.within;
       },
       c.loop-tail.invariant.1.0,
-      c.next_at-behind-2.ensures,
+      c.next_at-behind.ensures,
     )
 
 pub chain_expr-requires-clause-first : goal.chain_expr-requires-clause-first
