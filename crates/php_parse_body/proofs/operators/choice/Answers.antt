@@ -51,3 +51,6 @@ returns g c = λ f start spans is.
     (leads (λ s. expects (then_open f ∷ s)) (then_opens o.token f o.stands.is o.role_is c.requires.near (omega arith) c.if-sees_colon.ensures c.args.parser.now.deep)
     (inside (c.args.parser.now.reader.room - 1) LEAST_POWER (then_open f) (inl refl) (omega arith) (λ d. omega arith) r.reads))
     (c.half_choice.ensures (omega arith) f r.form start spans r.spans)
+
+pub half_choice-requires-clause-colon : goal.half_choice-requires-clause-colon
+half_choice-requires-clause-colon g c = c.if-not-closed_by.ensures.yes refl _ _ c.in-Ok.ensures.follows

@@ -38,6 +38,9 @@ returns-in_err-value g c =
     rw (q.1, q.2) (within c.args.parser.now.reader.tokens.now c.args.at (c.args.at + 1) (c.args.parser.now.reader.room - 1) c.yielded_power.result yield_open c.in_err-value.field-0.0 (omega arith) (inr (omega arith)) (omega arith) (λ d. omega arith)
     (yield_opens o.token o.stands.is o.role_is (ap ends_yield (follows_head c.args.parser.now.reader.tokens.now (c.args.at + 1) _ c.next_at-behind.ensures) ∙ sym c.yields_nothing.ensures ∙ c.if-yields_nothing.false) c.args.parser.now.deep) c.in_err-value.ensures)
 
+pub yield_pair-requires-clause-arrow : goal.yield_pair-requires-clause-arrow
+yield_pair-requires-clause-arrow g c = c.if-closed_by.ensures.yes refl _ _ c.in_ok-value.ensures.follows
+
 pub returns-then-closed_by : goal.returns-then-closed_by
 returns-then-closed_by g c =
     let o = c.requires.here in
