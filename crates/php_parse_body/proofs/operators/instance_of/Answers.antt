@@ -24,10 +24,10 @@ returns g c = λ least near f start spans is.
       form = instance_of_static f tt;
       spans = static_instance_spans c.args.parser.now.reader.tokens.now _ _ _ f start c.args.left.next c.in_ok-instance_of_static_expr.ensures.shown c.spot.ensures spans;
       reads = static_instance_reads f b.token near (instance_opens o.token f o.stands.is o.role_is near (omega arith) c.args.parser.now.deep) b.stands.is
-          (b.role_is ∙ ap (λ k. opening_view k (token_at c.args.parser.now.reader.tokens.now (c.args.left.next + 1)).text) a.0) (λ e. a.1.0 (sym (follows_head c.args.parser.now.reader.tokens.now (c.args.left.next + 1 + 1) _ a.1.1) ∙ e)) c.args.parser.now.deep;
+          (b.role_is ∙ ap (λ k. opening_view k (token_at c.args.parser.now.reader.tokens.now (c.args.left.next + 1)).text) a.0) (λ e. a.1 (sym (follows_head c.args.parser.now.reader.tokens.now (c.args.left.next + 1 + 1) _ a.2) ∙ e)) c.args.parser.now.deep;
       edge_is = sym c.instance_of_edge.ensures;
       rests = instance_rests (instance_of_static f tt) _ refl;
-      follows = a.1.1;
+      follows = a.2;
       bare = λ h. cc;
       ahead = omega arith;
       within = omega (arith, b.stands.within);

@@ -19,7 +19,7 @@ pub returns-in-Some : goal.returns-in-Some
 returns-in-Some g c =
     let o = c.requires.here in
     let a = rw c.in-Some.is at c.static_alone.ensures in
-    record { halts = static_alone o.token o.stands.is (o.role_is ∙ ap (λ b. opening_view b (token_at c.args.parser.now.reader.tokens.now c.args.at).text) a.0) (λ e. a.1.0 (sym (follows_head c.args.parser.now.reader.tokens.now (c.args.at + 1) _ a.1.1) ∙ e)) c.args.parser.now.deep; ahead = omega arith; within = omega (arith, o.stands.within) }
+    record { halts = static_alone o.token o.stands.is (o.role_is ∙ ap (λ b. opening_view b (token_at c.args.parser.now.reader.tokens.now c.args.at).text) a.0) (λ e. a.1 (sym (follows_head c.args.parser.now.reader.tokens.now (c.args.at + 1) _ a.2) ∙ e)) c.args.parser.now.deep; ahead = omega arith; within = omega (arith, o.stands.within) }
 
 pub returns-in_err-left : goal.returns-in_err-left
 returns-in_err-left g c =

@@ -48,7 +48,7 @@ loop-kind-preserved g c =
         ahead = omega (arith, v.ahead, r.ahead);
         within = r.within;
       },
-      c.next_at-behind-2.ensures,
+      c.next_at-behind-in-Some.ensures,
     )
 
 pub returns : goal.returns

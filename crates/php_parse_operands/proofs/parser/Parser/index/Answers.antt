@@ -60,3 +60,6 @@ returns g c = λ f start sized low.
       ahead = omega (arith, r.ahead);
       within = omega (arith, e.stands.within);
     }
+
+pub overflow_add-result-2 : goal.overflow_add-result-2
+overflow_add-result-2 g c = let e = c.if-not-closed_by.ensures.yes refl _ _ c.in_ok-expr.ensures.follows in omega (arith, e.stands.fits)

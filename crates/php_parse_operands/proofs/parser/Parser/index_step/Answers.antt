@@ -37,3 +37,6 @@ returns g c =
       ahead = omega (arith, r.ahead);
       within = omega (arith, e.stands.within);
     }
+
+pub overflow_add-result : goal.overflow_add-result
+overflow_add-result g c = let e = c.if-not-closed_by.ensures.yes refl _ _ c.in_ok-expr.ensures.follows in omega (arith, e.stands.fits)

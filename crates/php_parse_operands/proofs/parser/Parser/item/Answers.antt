@@ -76,3 +76,9 @@ returns g c =
       ahead = omega (arith, r.ahead);
       within = r.within;
     }
+
+pub overflow_add-next : goal.overflow_add-next
+overflow_add-next g c = let e = c.if-closed_by.ensures.yes refl _ _ c.in_ok-expr-2.ensures.follows in omega (arith, e.stands.fits)
+
+pub keyed-requires-clause-within : goal.keyed-requires-clause-within
+keyed-requires-clause-within g c = let e = c.if-closed_by.ensures.yes refl _ _ c.in_ok-expr-2.ensures.follows in omega (arith, e.stands.within)

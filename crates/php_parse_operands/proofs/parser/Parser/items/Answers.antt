@@ -136,3 +136,15 @@ loop-form-smaller g c =
     let i = c.in_ok-entry.ensures in
     let e = c.if-not-closed_by.ensures.yes refl _ _ i.follows in
     omega (arith, i.ahead, e.stands.within)
+
+pub overflow_add-result : goal.overflow_add-result
+overflow_add-result g c = let e = c.if-closed_by.ensures.yes refl _ _ c.next_at-due.ensures in omega (arith, e.stands.fits)
+
+pub overflow_add-next : goal.overflow_add-next
+overflow_add-next g c = let e = c.if-closed_by-2.ensures.yes refl _ _ c.next_at-due.ensures in omega (arith, e.stands.fits)
+
+pub overflow_add-result-then-closed_by-3 : goal.overflow_add-result-then-closed_by-3
+overflow_add-result-then-closed_by-3 g c = let e = c.if-closed_by-3.ensures.yes refl _ _ c.in_ok-entry.ensures.follows in omega (arith, e.stands.fits)
+
+pub overflow_add-next-else-closed_by-2 : goal.overflow_add-next-else-closed_by-2
+overflow_add-next-else-closed_by-2 g c = let e = c.if-not-closed_by.ensures.yes refl _ _ c.in_ok-entry.ensures.follows in omega (arith, e.stands.fits)

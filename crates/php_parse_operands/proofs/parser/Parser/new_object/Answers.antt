@@ -58,3 +58,9 @@ returns g c =
       ahead = omega (arith, r.ahead, s.ahead);
       within = s.within;
     }
+
+pub overflow_add-class : goal.overflow_add-class
+overflow_add-class g c = let a = c.if-not-opens_arguments.ensures _ _ c.in_ok-class.ensures.follows in omega (arith, a.stands.fits)
+
+pub arguments-requires : goal.arguments-requires
+arguments-requires g c = let a = c.if-not-opens_arguments.ensures _ _ c.in_ok-class.ensures.follows in omega (arith, a.stands.within)

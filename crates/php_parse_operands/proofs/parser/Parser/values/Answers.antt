@@ -85,3 +85,9 @@ loop-items-smaller g c =
     let i = c.in_ok-value.ensures in
     let e = c.if-not-closed_by.ensures.yes refl _ _ i.follows in
     omega (arith, i.ahead, e.stands.within)
+
+pub overflow_add-result : goal.overflow_add-result
+overflow_add-result g c = let e = c.if-closed_by.ensures.yes refl _ _ c.in_ok-value.ensures.follows in omega (arith, e.stands.fits)
+
+pub overflow_add-next : goal.overflow_add-next
+overflow_add-next g c = let e = c.if-not-closed_by.ensures.yes refl _ _ c.in_ok-value.ensures.follows in omega (arith, e.stands.fits)
