@@ -70,3 +70,6 @@ returns g c =
 
 pub loop-kind-smaller : goal.loop-kind-smaller
 loop-kind-smaller g c = let r = c.in_ok-step.ensures in omega (arith, r.ahead, r.within)
+
+pub step-requires : goal.step-requires
+step-requires g c = record { here = c.in-Some.ensures c.args.self.now.reader.tokens.now c.loop-kind.next c.loop-kind.invariant.1 }

@@ -63,4 +63,4 @@ pub overflow_add-class : goal.overflow_add-class
 overflow_add-class g c = let a = c.if-not-opens_arguments.ensures _ _ c.in_ok-class.ensures.follows in omega (arith, a.stands.fits)
 
 pub arguments-requires : goal.arguments-requires
-arguments-requires g c = let a = c.if-not-opens_arguments.ensures _ _ c.in_ok-class.ensures.follows in omega (arith, a.stands.within)
+arguments-requires g c = let a = c.if-not-opens_arguments.ensures _ _ c.in_ok-class.ensures.follows in record { within = omega (arith, a.stands.within) }

@@ -88,3 +88,6 @@ loop-tail-smaller g c =
     let d = c.in-Some.ensures c.args.self.now.reader.tokens.now c.loop-tail.next c.loop-tail.invariant.2 in
     let r = c.in_ok-found.ensures v.form c.args.at v.spans.sized (omega (arith, d.1, v.edge_is)) in
     omega (arith, r.ahead, r.within)
+
+pub suffix-requires : goal.suffix-requires
+suffix-requires g c = record { here = (c.in-Some.ensures c.args.self.now.reader.tokens.now c.loop-tail.next c.loop-tail.invariant.2).0 }
