@@ -66,3 +66,16 @@ returns-in-None g c =
       within = r.within;
       deep = c.args.parser.now.deep;
     }
+
+pub assign-requires : goal.assign-requires
+assign-requires g c = record { here = (rw c.in-Some-Assign.field-0-is at (rw c.in-Some-Assign.is at c.change_of.ensures)) c.args.parser.now.reader.tokens.now c.in_ok-left.left.next c.in_ok-left.ensures.follows }
+
+pub overflow_add-result-in-Some-Count : goal.overflow_add-result-in-Some-Count
+overflow_add-result-in-Some-Count g c =
+    let d = (rw c.in-Some-Count.field-0-is at (rw c.in-Some-Count.is at c.change_of.ensures)) c.args.parser.now.reader.tokens.now c.in_ok-left.left.next c.in_ok-left.ensures.follows in
+    omega (arith, d.stands.fits)
+
+pub overflow_add-left : goal.overflow_add-left
+overflow_add-left g c =
+    let d = (rw c.in-Some-Count.field-0-is at (rw c.in-Some-Count.is at c.change_of.ensures)) c.args.parser.now.reader.tokens.now c.in_ok-left.left.next c.in_ok-left.ensures.follows in
+    omega (arith, d.stands.fits)
