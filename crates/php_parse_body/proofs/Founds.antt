@@ -26,6 +26,7 @@ behind below tokens start at place mid (Ok r) ahead a found = record {
   reads = leads mid a found.reads;
   edge_is = found.edge_is;
   rests = found.rests;
+  follows = found.follows;
   bare = found.bare;
   ahead = omega (arith, found.ahead);
   within = found.within;

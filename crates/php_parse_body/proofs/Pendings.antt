@@ -15,7 +15,8 @@ use Rattle.php_parse_body.specs.declared.pending.Pending.{Pending}
 use Rattle.php_parse_body.specs.declared.pending.Onward.{Onward}
 use Rattle.php_parse_body.specs.declared.pending.Onward.TheVariants as onward
 use Rattle.php_parse_body.specs.BetweenView.{row_between}
-use Rattle.php_reader.specs.Seen.{rest}
+use Rattle.php_reader.specs.RoleView.{next_view}
+use Rattle.php_reader.specs.Seen.{rest, Follows}
 use Rattle.php_parse_operands.specs.Walk.{Leads, Rests}
 use Rattle.php_parse_operands.specs.Answer.{Fails, Found}
 use Rattle.php_parse_body.specs.Climb.{Completes, Waits, LeadsOn, Pends}
@@ -44,6 +45,7 @@ closes {room} {least} {from} {w} tokens start at next p right_side r low ahead a
       edge_is = a.ends_is f.form ∙ ap (min (edge (row_between p.between))) f.edge_is ∙ sym c.edge_is;
       rests = subst (λ k. Rests free (ends (completed a.form f.form)) (rest tokens k)) (sym c.next_is)
           (operator_rests a.form f.form (right (row_between p.between)) (rest tokens right_side.next) (omega (arith, b.0, a.right_is)) (omega (arith, b.1, a.right_is)) (sym a.right_is) f.rests);
+      follows = subst (λ k. Follows tokens k (next_view r.behind)) (sym c.next_is) (subst (λ n. Follows tokens right_side.next (next_view n)) (sym c.behind_is) f.follows);
       bare = λ h. subst (λ k. ends_yield (head_continuation (rest tokens k)) ≡ true) (sym c.next_is) (f.bare (sym (a.bare_is f.form) ∙ h));
       ahead = omega (arith, f.ahead, c.next_is);
       within = omega (arith, f.within, c.next_is);
@@ -58,6 +60,7 @@ opened tokens at least r low f = record {
   reads = weaken low f.reads;
   edge_is = f.edge_is;
   rests = f.rests;
+  follows = f.follows;
   bare = f.bare;
   ahead = f.ahead;
   within = f.within;
@@ -73,6 +76,7 @@ settled tokens at least r sees f = record {
   reads = f.reads;
   edge_is = f.edge_is;
   rests = subst (λ k. Rests free k (rest tokens r.next) → Rests least k (rest tokens r.next)) (sym f.edge_is) sees f.rests;
+  follows = f.follows;
   bare = f.bare;
   ahead = f.ahead;
   within = f.within;

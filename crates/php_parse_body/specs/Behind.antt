@@ -14,11 +14,12 @@ use Rattle.php_parse_operands.specs.declared.read.Read.{Read}
 use Rattle.php_parse_operands.specs.declared.read.Operand.{Operand}
 use Rattle.php_reader.specs.declared.role.Opening.{Opening}
 use Rattle.php_reader.specs.declared.role.Opening.TheVariants as opening
-use Rattle.php_reader.specs.RoleView.{infix_view}
+use Rattle.php_reader.specs.RoleView.{next_view, infix_view}
 use Rattle.php_parse_body.specs.declared.prefixes.Change.{Change}
 use Rattle.php_parse_body.specs.declared.prefixes.Change.TheVariants as change
 use Rattle.php_reader.specs.declared.role.Infix.{Infix}
-use Rattle.php_reader.specs.Seen.{rest, Shows}
+use Rattle.php_reader.specs.declared.role.Next.{Next}
+use Rattle.php_reader.specs.Seen.{rest, Follows, Shows}
 use Rattle.php_parse_operands.specs.Walk.{Rests}
 use Rattle.php_parse_operands.specs.Answer.{Fails, Spans, Answers}
 
@@ -42,10 +43,10 @@ AnswersBehind left least reader r =
     (f : Form) (start : ℕ) → Spans reader.tokens.now (view left.expr) f start left.next → ends f ≡ left.edge
     → Answers reader.room least free (λ s. holds f s) (rest reader.tokens.now left.next) reader.tokens.now start left.next r
 
--- whether `static` stands alone
-abbrev pub SeesStatic : List Token → ℕ → Opening → Bool → Type 0
-SeesStatic tokens at begun true = (begun ≡ opening.Static) × (head_continuation (rest tokens (at + 1)) ≢ draws (role.by_select tree.colons))
-SeesStatic tokens at begun false = begun ≡ opening.Static → Shows continuation tokens (at + 1) (draws (role.by_select tree.colons))
+-- what the token behind a `static` does that stands alone
+abbrev pub SeesStatic : List Token → ℕ → Opening → Option Next → Type 0
+SeesStatic tokens at begun (Some behind) = (begun ≡ opening.Static) × (next_view behind ≢ draws (role.by_select tree.colons)) × Follows tokens (at + 1) (next_view behind)
+SeesStatic tokens at begun None = begun ≡ opening.Static → Shows continuation tokens (at + 1) (draws (role.by_select tree.colons))
 
 -- whether the operand before is changed, where no suffix follows
 abbrev pub SeesChange : List Token → ℕ → Option Change → Type 0

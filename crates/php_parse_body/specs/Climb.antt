@@ -24,6 +24,7 @@ pub record Completes (p : Pending) (right_side r : Read) : Type 0 where
   pub shown : view r.expr ≡ between_view p.between (view p.left) (view right_side.expr)
   pub edge_is : r.edge ≡ min (edge (row_between p.between)) right_side.edge
   pub next_is : r.next ≡ right_side.next
+  pub behind_is : r.behind ≡ right_side.behind
 
 -- An operator was read, from a state before the symbols w to where its right side begins. The tree begins at `start`.
 pub record Waits (room least : ℕ) (from : OpenForms → State) (w : List Symbol) (tokens : List Token) (start : ℕ) (p : Pending) (next : ℕ) : Type 0 where

@@ -1,27 +1,30 @@
 // Whole expressions: what stands first, and the operators behind it.
 
-ghost use Rattle.std.specs.Prelude.{◌≡◌, ◌≤◌, ◌<◌, ◌+◌, ◌-◌, ℕ, length};
+ghost use Rattle.std.specs.Prelude.{◌≡◌, ◌≤◌, ◌<◌, ◌+◌, ◌-◌, ℕ, List, length};
+ghost use Rattle.php_token.specs.Token.{Token};
 ghost use Rattle.php_ast.specs.expression.Proper.{free};
 ghost use Rattle.php_parse_operands.specs.Answer.{AnswersHere, Nests};
 ghost use Rattle.php_parse_body.specs.Behind.{AnswersNone, SeesInfix};
+ghost use Rattle.php_reader.specs.RoleView.{next_view};
+ghost use Rattle.php_reader.specs.Seen.{Follows};
 
 use crate::operators::operator;
 use crate::pending::Onward;
 use crate::prefixes::first;
 use php_lex::Tokens;
 use php_parse_operands::{Calls, Inner, Parser, Read, ReadsInner};
-use php_reader::look::{next_at, start_at};
+use php_reader::look::start_at;
 use php_reader::role::{Infix, Next, Start, infix_strength};
 use php_reader::{Reader, Stop};
 use sqlite_items::Items;
 
-/// The operator at a place that goes on with an expression which is open to what draws less than `edge`, among
-/// operators of a power of at least `least`.
-fn operator_at(tokens: &Tokens, at: usize, least: u8, edge: u8) -> Option<Infix>
+/// The operator of a token that does this, where it goes on with an expression which is open to what draws less than
+/// `edge`, among operators of a power of at least `least`.
+fn operator_of(behind: Next, least: u8, edge: u8) -> Option<Infix>
     requires { 1 ≤ least }
-    ensures { SeesInfix tokens.now at least edge result }
+    ensures { (tokens : List Token) (at : ℕ) → Follows tokens at (next_view behind) → SeesInfix tokens at least edge result }
 {
-    let Next::Infix(op) = next_at(tokens, at) else {
+    let Next::Infix(op) = behind else {
         return None;
     };
     let draws = infix_strength(op);
@@ -54,7 +57,7 @@ fn climb<R: ReadsInner>(parser: &Parser<R>, at: usize, least: u8) -> Result<Read
     let mut inner = least;
     let mut read = first(parser, at)?;
     loop {
-        match operator_at(parser.reader.tokens, read.next, inner, read.edge) {
+        match operator_of(read.behind, inner, read.edge) {
             Some(op) => match operator(parser, read, op, inner)? {
                 Onward::Behind(longer) => read = longer,
                 Onward::Inside(outer, next) => {

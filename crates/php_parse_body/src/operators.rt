@@ -16,14 +16,14 @@ ghost use Rattle.php_reader.specs.Seen.{Shows};
 ghost use Rattle.php_reader.specs.RoleView.{infix_view, opening_view};
 
 use crate::pending::{Between, Onward, Pending, edge_of, right_of};
-use crate::prefixes::lacks_colons;
+use crate::prefixes::static_alone;
 use php_ast::{Binary, Grouping, row_of, row_of_instance_of};
 use php_build::build::{binary_expr, instance_of_expr, instance_of_static_expr};
 use php_lex::Tokens;
 use php_parse_operands::{Parser, Read, ReadsInner};
 use php_reader::Stop;
 use php_reader::limit::LEAST_POWER;
-use php_reader::look::{ends_with, opening_at, sees_colon, spot};
+use php_reader::look::{closed_by, opening_at, sees_colon, spot};
 use php_reader::role::{Closer, Infix, Opening};
 use sqlite_items::Boxed;
 use std::alloc::Global;
@@ -95,6 +95,7 @@ fn to_right<R: ReadsInner>(parser: &Parser<R>, left: Read, op: Binary) -> Result
     Ok(Read {
         edge: edge_of(row).min(right.edge),
         next: right.next,
+        behind: right.behind,
         expr: binary_expr(parser.reader.alloc, op, left.expr, right.expr)?,
     })
 }
@@ -146,7 +147,7 @@ fn choice<R: ReadsInner>(parser: &Parser<R>, left: Read, least: u8) -> Result<On
         Ok(middle) => middle,
         Err(stop) => return Err(discard(left, stop)),
     };
-    if !ends_with(parser.reader.tokens, middle.next, Closer::Colon) {
+    if !closed_by(middle.behind, Closer::Colon) {
         return Err(discard(left, unclosed(middle)));
     }
     half_choice(parser, left, middle, least)
@@ -171,6 +172,7 @@ fn instance_of_class<R: ReadsInner>(
     Ok(Read {
         edge: instance_of_edge(),
         next: class.next,
+        behind: class.behind,
         expr: instance_of_expr(parser.reader.alloc, left.expr, class.expr)?,
     })
 }
@@ -185,12 +187,13 @@ fn instance_of<R: ReadsInner>(parser: &Parser<R>, left: Read) -> Result<Read, St
     let Some(opening) = opening_at(parser.reader.tokens, at) else {
         return Err(Stop::Syntax(at));
     };
-    if !lacks_colons(parser.reader.tokens, at, opening) {
+    let Some(behind) = static_alone(parser.reader.tokens, at, opening) else {
         return instance_of_class(parser, left, opening);
-    }
+    };
     Ok(Read {
         edge: instance_of_edge(),
         next: at + 1,
+        behind,
         expr: instance_of_static_expr(
             parser.reader.alloc,
             left.expr,

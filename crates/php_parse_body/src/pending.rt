@@ -116,6 +116,7 @@ impl Pending {
         Ok(Read {
             edge: edge.min(right.edge),
             next: right.next,
+            behind: right.behind,
             expr: between_expr(alloc, left, between, right.expr)?,
         })
     }

@@ -1,7 +1,7 @@
 // What may stand wherever an operand may: an operand alone, counted or assigned, a prefix operator, `yield`.
 
-ghost use Rattle.std.specs.Prelude.{◌≡◌, ◌≤◌, ◌<◌, ◌+◌, ◌-◌, ◌^◌, ℕ, suc, length, true, false};
-ghost use Rattle.php_token.specs.Token.{token_at};
+ghost use Rattle.std.specs.Prelude.{◌≡◌, ◌≢◌, ◌≤◌, ◌<◌, ◌+◌, ◌-◌, ◌^◌, ℕ, List, suc, length, true, false};
+ghost use Rattle.php_token.specs.Token.{Token, token_at};
 ghost use Rattle.php_ast.specs.expression.Tree.{colons};
 ghost use Rattle.php_ast.specs.Power.{assign_row, yield_power};
 ghost use Rattle.php_ast.specs.expression.Proper.{edge, free, right};
@@ -12,8 +12,8 @@ ghost use Rattle.php_grammar.specs.expression.Laws.{head_continuation};
 ghost use Rattle.php_reader.specs.declared.role.Opening.TheVariants.{Static};
 ghost use Rattle.php_parse_operands.specs.Answer.{AnswersHere};
 ghost use Rattle.php_parse_body.specs.Behind.{AnswersAssigned, AnswersYield, SeesChange, SeesStatic};
-ghost use Rattle.php_reader.specs.Seen.{Shows, rest, test};
-ghost use Rattle.php_reader.specs.RoleView.{opening_view};
+ghost use Rattle.php_reader.specs.Seen.{Follows, Shows, rest, test};
+ghost use Rattle.php_reader.specs.RoleView.{next_view, opening_view};
 
 use crate::pending::{edge_of, right_of};
 use php_ast::{Assign, Count, Prefix, power_of_yield, prefix_power_of, row_of_assignment};
@@ -25,24 +25,38 @@ use php_lex::Tokens;
 use php_parse_operands::{Operand, Parser, Read, ReadsInner};
 use php_reader::Stop;
 use php_reader::limit::{OPEN_COUNT, OPEN_YIELD};
-use php_reader::look::{ends_with, next_at, sees_ampersand, spot, start_at};
+use php_reader::look::{closed_by, next_at, sees_ampersand, spot, start_at};
 use php_reader::role::{Closer, Next, Opening, Start, Tail};
 use std::alloc::Global;
 
-/// Whether `static` stands alone, with no `::` behind it.
-pub(crate) fn lacks_colons(tokens: &Tokens, at: usize, opening: Opening) -> bool
+/// Whether a token that does this is `::`.
+fn names_member(behind: Next) -> bool
+    ensures yes { result ≡ true → next_view behind ≡ draws (role.by_select colons) }
+    ensures no { result ≡ false → next_view behind ≢ draws (role.by_select colons) }
+{
+    matches!(behind, Next::Suffix(Tail::Member))
+}
+
+/// What the token behind a `static` does that stands alone, with no `::` behind it.
+pub(crate) fn static_alone(tokens: &Tokens, at: usize, opening: Opening) -> Option<Next>
     requires { at + 1 < 2 ^ 64 }
     ensures { SeesStatic tokens.now at opening result }
 {
-    matches!(opening, Opening::Static)
-        && !matches!(next_at(tokens, at + 1), Next::Suffix(Tail::Member))
+    if !matches!(opening, Opening::Static) {
+        return None;
+    }
+    let behind = next_at(tokens, at + 1);
+    if names_member(behind) {
+        return None;
+    }
+    Some(behind)
 }
 
-/// Whether a `yield` in front of a place stands alone.
-fn yields_nothing(tokens: &Tokens, at: usize) -> bool
-    ensures { result ≡ ends_yield (head_continuation (rest tokens.now at)) }
+/// Whether a `yield` stands alone in front of a token that does this.
+fn yields_nothing(behind: Next) -> bool
+    ensures { result ≡ ends_yield (next_view behind) }
 {
-    match next_at(tokens, at) {
+    match behind {
         Next::Closes(Closer::Paren | Closer::Bracket | Closer::Comma | Closer::Semicolon) => true,
         _ => false,
     }
@@ -76,11 +90,11 @@ pub(crate) enum Change {
     Count(Count),
 }
 
-/// What changes the operand in front of a place.
-fn change_at(tokens: &Tokens, at: usize) -> Option<Change>
-    ensures { SeesChange tokens.now at result }
+/// What changes the operand in front of a token that does this.
+fn change_of(behind: Next) -> Option<Change>
+    ensures { (tokens : List Token) (at : ℕ) → Follows tokens at (next_view behind) → SeesChange tokens at result }
 {
-    match next_at(tokens, at) {
+    match behind {
         Next::Assign(op) => Some(Change::Assign(op)),
         Next::Count(count) => Some(Change::Count(count)),
         _ => None,
@@ -97,6 +111,7 @@ fn prefix<R: ReadsInner>(parser: &Parser<R>, at: usize, op: Prefix) -> Result<Re
     Ok(Read {
         edge: power.min(operand.edge),
         next: operand.next,
+        behind: operand.behind,
         expr: prefix_expr(
             parser.reader.alloc,
             spot(parser.reader.tokens, at),
@@ -116,6 +131,7 @@ fn assign_value<R: ReadsInner>(parser: &Parser<R>, left: Operand, op: Assign) ->
     Ok(Read {
         edge: assign_edge().min(value.edge),
         next: value.next,
+        behind: value.behind,
         expr: assign_expr(parser.reader.alloc, op, left.expr, value.expr)?,
     })
 }
@@ -131,6 +147,7 @@ fn assign_reference<R: ReadsInner>(parser: &Parser<R>, left: Operand) -> Result<
     Ok(Read {
         edge: assign_edge().min(source.edge),
         next: source.next,
+        behind: source.behind,
         expr: assign_reference_expr(parser.reader.alloc, left.expr, source.expr)?,
     })
 }
@@ -157,21 +174,23 @@ fn changed_operand<R: ReadsInner>(
     requires here { Shows beginning parser.now.reader.tokens.now at (opening_view opening (token_at parser.now.reader.tokens.now at).text) }
     ensures { AnswersHere parser.now.reader free free at result }
 {
-    if lacks_colons(parser.reader.tokens, at, opening) {
+    if let Some(_) = static_alone(parser.reader.tokens, at, opening) {
         return Err(Stop::Syntax(at + 1));
     }
     let left = parser.operand(at, opening)?;
-    match change_at(parser.reader.tokens, left.next) {
+    match change_of(left.behind) {
         Some(Change::Assign(op)) => assign(parser, left, op),
         Some(Change::Count(count)) => Ok(Read {
             edge: OPEN_COUNT,
             next: left.next + 1,
+            behind: next_at(parser.reader.tokens, left.next + 1),
             expr: count_expr(parser.reader.alloc, left.expr, count)?,
         }),
         None => Ok(Read {
             expr: left.expr,
             edge: left.edge,
             next: left.next,
+            behind: left.behind,
         }),
     }
 }
@@ -187,6 +206,7 @@ fn yield_pair<R: ReadsInner>(parser: &Parser<R>, at: usize, key: Read) -> Result
     Ok(Read {
         edge: power_of_yield().min(value.edge),
         next: value.next,
+        behind: value.behind,
         expr: yield_pair_expr(
             parser.reader.alloc,
             spot(parser.reader.tokens, at),
@@ -201,20 +221,23 @@ fn yielding<R: ReadsInner>(parser: &Parser<R>, at: usize) -> Result<Read, Stop>
     requires here { Shows beginning parser.now.reader.tokens.now at role.at_yield }
     ensures { AnswersHere parser.now.reader free free at result }
 {
-    if yields_nothing(parser.reader.tokens, at + 1) {
+    let behind = next_at(parser.reader.tokens, at + 1);
+    if yields_nothing(behind) {
         return Ok(Read {
             expr: yield_nothing_expr(spot(parser.reader.tokens, at)),
             edge: OPEN_YIELD,
             next: at + 1,
+            behind,
         });
     }
     let value = parser.deeper(at + 1, yielded_power())?;
-    if ends_with(parser.reader.tokens, value.next, Closer::DoubleArrow) {
+    if closed_by(value.behind, Closer::DoubleArrow) {
         return yield_pair(parser, at, value);
     }
     Ok(Read {
         edge: power_of_yield().min(value.edge),
         next: value.next,
+        behind: value.behind,
         expr: yield_value_expr(
             parser.reader.alloc,
             spot(parser.reader.tokens, at),

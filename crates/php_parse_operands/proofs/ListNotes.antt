@@ -24,7 +24,7 @@ use Rattle.php_parse_operands.specs.ListAnswer.{AnswersKeyed, AnswersItem, Spans
 use Rattle.std.proofs.Common.{Result, Ok, Err}
 use Rattle.php_reader.specs.declared.reader.Reader.{Reader}
 use Rattle.php_reader.specs.declared.fail.Stop.{Stop}
-use Rattle.php_parse_operands.specs.declared.read.Entry.{Entry}
+use Rattle.php_parse_operands.specs.declared.read.Element.{Element}
 use Rattle.php_reader.specs.Seen.{rest}
 use Rattle.php_parse_operands.proofs.Fails.{later}
 use Rattle.php_build.proofs.Views.{argument_push, item_push, value_push}
@@ -97,7 +97,7 @@ word_size array_form.Brackets h = absurd (h refl)
 word_size _ h = refl
 
 -- an item with a key
-pub item_keyed : (array_of : ArrayForm) (reader : Reader) (at place : ℕ) (k : Form) (key : Tree Note) (r : Result (Entry (Item Expr)) Stop) → Spans reader.tokens.now key k at place → 1 ≤ reader.room - 1 → at ≤ place
+pub item_keyed : (array_of : ArrayForm) (reader : Reader) (at place : ℕ) (k : Form) (key : Tree Note) (r : Result (Element (Item Expr)) Stop) → Spans reader.tokens.now key k at place → 1 ≤ reader.room - 1 → at ≤ place
     → ((items : Items Nothing) → Leads reader.room top (λ s. past_items (of_list (array array_of)) items s) (rest reader.tokens.now at) (λ s. past_value (of_list (array array_of)) items k s) (rest reader.tokens.now (place + 1)))
     → AnswersKeyed key reader (place + 1) r → AnswersItem array_of reader at r
 item_keyed array_of reader at place k key (Ok r) spans deep ahead reads found = record {
@@ -108,6 +108,7 @@ item_keyed array_of reader at place k key (Ok r) spans deep ahead reads found = 
   flat = found.flat;
   reads = λ items. leads (λ s. past_value (of_list (array array_of)) items k s) (reads items) (found.reads array_of items k);
   rests = found.rests;
+  follows = found.follows;
   no_key = λ a. let b = found.keyed k in cc;
   deep = omega arith;
   ahead = omega (arith, found.ahead);

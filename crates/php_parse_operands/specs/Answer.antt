@@ -23,8 +23,8 @@ use Rattle.php_parse_operands.specs.declared.read.Followed.{Followed}
 use Rattle.php_ast.specs.expression.Parts.{suffix_with}
 use Rattle.php_build.specs.Flat.{are_flat_suffixes}
 use Rattle.php_reader.specs.declared.role.Tail.{Tail}
-use Rattle.php_reader.specs.RoleView.{tail_view}
-use Rattle.php_reader.specs.Seen.{rest, Shows}
+use Rattle.php_reader.specs.RoleView.{next_view, tail_view}
+use Rattle.php_reader.specs.Seen.{rest, Follows, Shows}
 use Rattle.php_parse_operands.specs.Walk.{Leads, Halts, Rests}
 
 -- ---- failures
@@ -55,6 +55,7 @@ pub record Found (room least below : ℕ) (from : OpenForms → State) (w : List
   pub reads : Leads room least from w (λ s. holds form s) (rest tokens r.next)
   pub edge_is : ends form ≡ r.edge
   pub rests : Rests below (ends form) (rest tokens r.next)
+  pub follows : Follows tokens r.next (next_view r.behind)
   -- a `yield` alone at the end stands before what may follow it
   pub bare : ends_bare form ≡ true → ends_yield (head_continuation (rest tokens r.next)) ≡ true
   pub ahead : at < r.next
@@ -90,6 +91,7 @@ pub record FoundLeaf (room : ℕ) (tokens : List Token) (at : ℕ) (r : Taken) :
   pub edge_is : ends form ≡ r.edge
   pub opened : free < ends form
   pub no_call : is_call form ≡ false
+  pub follows : Follows tokens r.next (next_view r.behind)
   pub ahead : at < r.next
   pub within : r.next ≤ length tokens
 
@@ -107,6 +109,7 @@ pub record FoundOperand (room : ℕ) (tokens : List Token) (at : ℕ) (r : Opera
   pub call_is : is_call form ≡ r.is_call
   pub call_open : is_call form ≡ true → ends form ≡ top
   pub rests : Rests operand_level (ends form) (rest tokens r.next)
+  pub follows : Follows tokens r.next (next_view r.behind)
   pub ahead : at < r.next
   pub within : r.next ≤ length tokens
 

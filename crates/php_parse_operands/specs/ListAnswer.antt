@@ -21,14 +21,16 @@ use Rattle.php_grammar.specs.expression.Machine.{Nothing, Form, Holder, of_list,
 use Rattle.php_reader.specs.declared.reader.Reader.{Reader}
 use Rattle.php_reader.specs.declared.fail.Stop.{Stop}
 use Rattle.php_parse_operands.specs.declared.read.Listed.{Listed}
+use Rattle.php_parse_operands.specs.declared.read.Element.{Element}
 use Rattle.php_parse_operands.specs.declared.read.Entry.{Entry}
+use Rattle.php_reader.specs.RoleView.{next_view}
 use Rattle.php_ast.specs.expression.Parts.{argument_with, class_with, item_with, piece_with, step_with}
 use Rattle.php_build.specs.Flat.{are_flat, is_flat_piece, are_flat_pieces, is_flat_item, are_flat_items, is_flat_argument, are_flat_arguments, is_flat_step, are_flat_steps, is_flat_class}
 use Rattle.php_ast.specs.declared.expression.ClassStep.{ClassStep}
 use Rattle.php_ast.specs.declared.expression.Piece.{Piece}
 use Rattle.php_parse_operands.specs.declared.classes.StepKind.{StepKind}
 use Rattle.php_parse_operands.specs.declared.classes.StepKind.TheVariants as step_kind
-use Rattle.php_reader.specs.Seen.{rest, Shows}
+use Rattle.php_reader.specs.Seen.{rest, Follows, Shows}
 use Rattle.php_parse_operands.specs.Walk.{Leads, Rests}
 use Rattle.php_parse_operands.specs.Answer.{Fails}
 
@@ -81,7 +83,7 @@ AnswersValues reader at (Ok r) = FoundValues reader.room reader.tokens.now at r
 AnswersValues reader at (Err e) = Fails reader.room top (λ s. past_items (of_list is_set) tree.none s) (rest reader.tokens.now at) reader.tokens.now at e
 
 -- an item of a list, before the comma or the closing token behind it
-pub record FoundItem (array_of : ArrayForm) (room : ℕ) (tokens : List Token) (at : ℕ) (r : Entry (Item Expr)) : Type 0 where
+pub record FoundItem (array_of : ArrayForm) (room : ℕ) (tokens : List Token) (at : ℕ) (r : Element (Item Expr)) : Type 0 where
   pub lead : tree.Lead Nothing
   pub form : Form
   pub shown : (xs : tree.Items Note) → shown.item_more xs (item_with view r.item) ≡ tree.and xs (noted_lead (notes_of tokens) at lead) (noted (notes_of tokens) (at + size_lead lead) form)
@@ -89,13 +91,14 @@ pub record FoundItem (array_of : ArrayForm) (room : ℕ) (tokens : List Token) (
   pub flat : is_flat_item r.item ≡ true
   pub reads : (items : tree.Items Nothing) → Leads room top (λ s. past_items (of_list (array array_of)) items s) (rest tokens at) (λ s. holds form (items_open (of_list (array array_of)) items lead ∷ s)) (rest tokens r.next)
   pub rests : Rests LEAST_POWER (ends form) (rest tokens r.next)
+  pub follows : Follows tokens r.next (next_view r.behind)
   pub no_key : is_plain lead ≡ true → head_continuation (rest tokens r.next) ≢ closes role.double_arrow
   pub deep : 2 ≤ room
   pub ahead : at < r.next
   pub within : r.next ≤ length tokens
 
 -- the value behind the `=>` of a key
-pub record FoundKeyed (key : Tree Note) (room : ℕ) (tokens : List Token) (at : ℕ) (r : Entry (Item Expr)) : Type 0 where
+pub record FoundKeyed (key : Tree Note) (room : ℕ) (tokens : List Token) (at : ℕ) (r : Element (Item Expr)) : Type 0 where
   pub lead : Form → tree.Lead Nothing
   pub form : Form
   pub lead_size : ℕ
@@ -107,19 +110,20 @@ pub record FoundKeyed (key : Tree Note) (room : ℕ) (tokens : List Token) (at :
   pub flat : is_flat_item r.item ≡ true
   pub reads : (form_of : ArrayForm) (items : tree.Items Nothing) (k : Form) → Leads room top (λ s. past_value (of_list (array form_of)) items k s) (rest tokens at) (λ s. holds form (items_open (of_list (array form_of)) items (lead k) ∷ s)) (rest tokens r.next)
   pub rests : Rests LEAST_POWER (ends form) (rest tokens r.next)
+  pub follows : Follows tokens r.next (next_view r.behind)
   pub ahead : at < r.next
   pub within : r.next ≤ length tokens
 
-abbrev pub AnswersItem : ArrayForm → Reader → ℕ → Result (Entry (Item Expr)) Stop → Type 0
+abbrev pub AnswersItem : ArrayForm → Reader → ℕ → Result (Element (Item Expr)) Stop → Type 0
 AnswersItem form reader at (Ok r) = FoundItem form reader.room reader.tokens.now at r
 AnswersItem form reader at (Err e) = (items : tree.Items Nothing) → Fails reader.room top (λ s. past_items (of_list (array form)) items s) (rest reader.tokens.now at) reader.tokens.now at e
 
-abbrev pub AnswersKeyed : Tree Note → Reader → ℕ → Result (Entry (Item Expr)) Stop → Type 0
+abbrev pub AnswersKeyed : Tree Note → Reader → ℕ → Result (Element (Item Expr)) Stop → Type 0
 AnswersKeyed key reader at (Ok r) = FoundKeyed key reader.room reader.tokens.now at r
 AnswersKeyed key reader at (Err e) = (form : ArrayForm) (items : tree.Items Nothing) (k : Form) → Fails reader.room top (λ s. past_value (of_list (array form)) items k s) (rest reader.tokens.now at) reader.tokens.now at e
 
 -- an argument, before the comma or the parenthesis behind it
-pub record FoundArgument (room : ℕ) (tokens : List Token) (at : ℕ) (r : Entry (Argument Expr)) : Type 0 where
+pub record FoundArgument (room : ℕ) (tokens : List Token) (at : ℕ) (r : Element (Argument Expr)) : Type 0 where
   pub lead : tree.Lead Nothing
   pub form : Form
   pub shown : (xs : tree.Items Note) → shown.argument_more xs (argument_with view r.item) ≡ tree.and xs (noted_lead (notes_of tokens) at lead) (noted (notes_of tokens) (at + size_lead lead) form)
@@ -127,11 +131,12 @@ pub record FoundArgument (room : ℕ) (tokens : List Token) (at : ℕ) (r : Entr
   pub flat : is_flat_argument r.item ≡ true
   pub reads : (h : Holder) (items : tree.Items Nothing) → is_arguments h ≡ true → Leads room top (λ s. past_items h items s) (rest tokens at) (λ s. holds form (items_open h items lead ∷ s)) (rest tokens r.next)
   pub rests : Rests LEAST_POWER (ends form) (rest tokens r.next)
+  pub follows : Follows tokens r.next (next_view r.behind)
   pub deep : 2 ≤ room
   pub ahead : at < r.next
   pub within : r.next ≤ length tokens
 
-abbrev pub AnswersArgument : Reader → ℕ → Result (Entry (Argument Expr)) Stop → Type 0
+abbrev pub AnswersArgument : Reader → ℕ → Result (Element (Argument Expr)) Stop → Type 0
 AnswersArgument reader at (Ok r) = FoundArgument reader.room reader.tokens.now at r
 AnswersArgument reader at (Err e) = (h : Holder) (items : tree.Items Nothing) → is_arguments h ≡ true → Fails reader.room top (λ s. past_items h items s) (rest reader.tokens.now at) reader.tokens.now at e
 
@@ -157,7 +162,7 @@ is_found (tree.class_found steps) = true
 is_found _ = false
 
 -- from a state before the class
-pub record FoundClass (from : OpenForms → State) (room : ℕ) (tokens : List Token) (at : ℕ) (r : Entry (Class Expr)) : Type 0 where
+pub record FoundClass (from : OpenForms → State) (room : ℕ) (tokens : List Token) (at : ℕ) (r : Element (Class Expr)) : Type 0 where
   pub class : tree.Class Nothing
   pub shown : shown.class_view (class_with view r.item) ≡ noted_class (notes_of tokens) at class
   pub sized : at + size_class class ≡ r.next
@@ -165,10 +170,11 @@ pub record FoundClass (from : OpenForms → State) (room : ℕ) (tokens : List T
   pub reads : Leads room top from (rest tokens at) (λ s. past_class class s) (rest tokens r.next)
   pub no_index : is_found class ≡ true → head_continuation (rest tokens r.next) ≢ draws role.by_index
   pub no_arrow : is_found class ≡ true → head_continuation (rest tokens r.next) ≢ draws (role.by_select tree.thin)
+  pub follows : Follows tokens r.next (next_view r.behind)
   pub ahead : at < r.next
   pub within : r.next ≤ length tokens
 
-abbrev pub AnswersClass : Reader → ℕ → Result (Entry (Class Expr)) Stop → Type 0
+abbrev pub AnswersClass : Reader → ℕ → Result (Element (Class Expr)) Stop → Type 0
 AnswersClass reader at (Ok r) = FoundClass (λ s. past_new s) reader.room reader.tokens.now at r
 AnswersClass reader at (Err e) = Fails reader.room top (λ s. past_new s) (rest reader.tokens.now at) reader.tokens.now at e
 

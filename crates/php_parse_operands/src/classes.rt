@@ -1,23 +1,24 @@
 // `new` and its class.
 
-ghost use Rattle.std.specs.Prelude.{◌≡◌, ◌≤◌, ◌<◌, ◌+◌, ◌-◌, ℕ, length, true, false, Some};
+ghost use Rattle.std.specs.Prelude.{◌≡◌, ◌≤◌, ◌<◌, ◌+◌, ◌-◌, ℕ, List, length, true, false, Some};
 ghost use Rattle.php_ast.specs.expression.Tree.{thin, class_found, from};
 ghost use Rattle.php_grammar.specs.expression.Role as role;
 ghost use Rattle.php_grammar.specs.expression.Role.{beginning, continuation, draws};
-ghost use Rattle.php_token.specs.Token.{token_at};
+ghost use Rattle.php_token.specs.Token.{Token, token_at};
 ghost use Rattle.php_parse_operands.specs.Answer.{AnswersLeaf};
 ghost use Rattle.php_parse_operands.specs.ListAnswer.{AnswersClass, AnswersStep, SeesArguments, SeesStep};
-ghost use Rattle.php_reader.specs.Seen.{SeesClass, Shows, named_class};
+ghost use Rattle.php_reader.specs.Seen.{Follows, SeesClass, Shows, named_class};
+ghost use Rattle.php_reader.specs.RoleView.{next_view};
 
 use crate::inner::ReadsInner;
 use crate::parser::Parser;
-use crate::read::{Entry, Read, Taken};
+use crate::read::{Element, Entry, Read, Taken};
 use php_ast::{Class, ClassStep, Expr};
 use php_build::build::{new_expr, new_with_expr};
 use php_lex::Tokens;
 use php_reader::Stop;
 use php_reader::limit::{LEAST_POWER, OPEN_NEW};
-use php_reader::look::{class_at, ends_with, name_at, next_at, spot, word_at};
+use php_reader::look::{class_at, closed_by, name_at, next_at, spot, word_at};
 use php_reader::role::{ClassKind, Closer, Next, Tail};
 use sqlite_items::Items;
 use std::alloc::Global;
@@ -31,22 +32,22 @@ pub(crate) enum StepKind {
     Index,
 }
 
-/// The step that follows at a place.
-fn step_at(tokens: &Tokens, at: usize) -> Option<StepKind>
-    ensures { SeesStep tokens.now at result }
+/// The step that begins with a token which does this.
+fn step_of(behind: Next) -> Option<StepKind>
+    ensures { (tokens : List Token) (at : ℕ) → Follows tokens at (next_view behind) → SeesStep tokens at result }
 {
-    match next_at(tokens, at) {
+    match behind {
         Next::Suffix(Tail::Property) => Some(StepKind::Property),
         Next::Suffix(Tail::Index) => Some(StepKind::Index),
         _ => None,
     }
 }
 
-/// Whether arguments follow at a place.
-fn sees_arguments(tokens: &Tokens, at: usize) -> bool
-    ensures { SeesArguments tokens.now at result }
+/// Whether arguments begin with a token that does this.
+fn opens_arguments(behind: Next) -> bool
+    ensures { (tokens : List Token) (at : ℕ) → Follows tokens at (next_view behind) → SeesArguments tokens at result }
 {
-    matches!(next_at(tokens, at), Next::Suffix(Tail::Call))
+    matches!(behind, Next::Suffix(Tail::Call))
 }
 
 impl<'t, R: ReadsInner> Parser<'t, R> {
@@ -74,8 +75,9 @@ impl<'t, R: ReadsInner> Parser<'t, R> {
             expr,
             edge: _,
             next,
+            behind,
         } = self.deeper(at + 1, LEAST_POWER)?;
-        if !ends_with(self.reader.tokens, next, Closer::Bracket) {
+        if !closed_by(behind, Closer::Bracket) {
             return Err(Stop::Syntax(next));
         }
         Ok(Entry {
@@ -96,38 +98,43 @@ impl<'t, R: ReadsInner> Parser<'t, R> {
     }
 
     /// A variable and its steps to the name of a class.
-    fn found_class(&self, at: usize) -> Result<Entry<Class<Expr>>, Stop>
+    fn found_class(&self, at: usize) -> Result<Element<Class<Expr>>, Stop>
         requires here { Shows named_class self.now.reader.tokens.now at (Some (class_found (from tt (token_at self.now.reader.tokens.now at).text))) }
         ensures { AnswersClass self.now.reader at result }
     {
         let name = name_at(self.reader.alloc, self.reader.tokens, at)?;
         let mut steps = Items::new(self.reader.alloc);
         let mut next = at + 1;
-        while let Some(kind) = step_at(self.reader.tokens, next) {
+        let mut behind = next_at(self.reader.tokens, next);
+        while let Some(kind) = step_of(behind) {
             let step = self.step(next, kind)?;
             steps.push(step.item)?;
             next = step.next;
+            behind = next_at(self.reader.tokens, next);
         }
-        Ok(Entry {
+        Ok(Element {
             item: Class::Variable(name, steps),
             next,
+            behind,
         })
     }
 
     /// The class behind `new`.
-    fn class(&self, at: usize) -> Result<Entry<Class<Expr>>, Stop>
+    fn class(&self, at: usize) -> Result<Element<Class<Expr>>, Stop>
         requires within { at ≤ length self.now.reader.tokens.now }
         ensures { AnswersClass self.now.reader at result }
     {
         match class_at(self.reader.tokens, at) {
             None => Err(Stop::Syntax(at)),
-            Some(ClassKind::Name) => Ok(Entry {
+            Some(ClassKind::Name) => Ok(Element {
                 item: Class::Name(name_at(self.reader.alloc, self.reader.tokens, at)?),
                 next: at + 1,
+                behind: next_at(self.reader.tokens, at + 1),
             }),
-            Some(ClassKind::Static) => Ok(Entry {
+            Some(ClassKind::Static) => Ok(Element {
                 item: Class::Static(spot(self.reader.tokens, at)),
                 next: at + 1,
+                behind: next_at(self.reader.tokens, at + 1),
             }),
             Some(ClassKind::Variable) => self.found_class(at),
         }
@@ -139,9 +146,10 @@ impl<'t, R: ReadsInner> Parser<'t, R> {
         ensures { AnswersLeaf self.now.reader at result }
     {
         let class = self.class(at + 1)?;
-        if !sees_arguments(self.reader.tokens, class.next) {
+        if !opens_arguments(class.behind) {
             return Ok(Taken {
                 next: class.next,
+                behind: class.behind,
                 expr: new_expr(self.reader.alloc, spot(self.reader.tokens, at), class.item)?,
                 edge: OPEN_NEW,
             });
@@ -149,6 +157,7 @@ impl<'t, R: ReadsInner> Parser<'t, R> {
         let arguments = self.arguments(class.next + 1)?;
         Ok(Taken {
             next: arguments.next,
+            behind: next_at(self.reader.tokens, arguments.next),
             expr: new_with_expr(
                 self.reader.alloc,
                 spot(self.reader.tokens, at),

@@ -16,13 +16,15 @@ ghost use Rattle.php_reader.specs.RoleView.{closer_view};
 
 use crate::inner::ReadsInner;
 use crate::parser::Parser;
-use crate::read::{Entry, Listed, Read, Taken};
+use crate::read::{Element, Listed, Read, Taken};
 use php_ast::{Argument, ArrayForm, Expr, Item};
 use php_build::build::{array_expr, is_set_expr};
 use php_lex::Tokens;
 use php_reader::Stop;
 use php_reader::limit::{LEAST_POWER, TOP};
-use php_reader::look::{ends_with, sees_ampersand, sees_paren, sees_reference, sees_spread, spot};
+use php_reader::look::{
+    closed_by, ends_with, next_at, sees_ampersand, sees_paren, sees_reference, sees_spread, spot,
+};
 use php_reader::role::Closer;
 use sqlite_items::Items;
 use std::alloc::{AllocError, Global};
@@ -52,7 +54,7 @@ fn ended(items: Items<Item<Expr>>) -> Result<Items<Item<Expr>>, AllocError>
 
 impl<'t, R: ReadsInner> Parser<'t, R> {
     /// An argument.
-    fn argument(&self, at: usize) -> Result<Entry<Argument<Expr>>, Stop>
+    fn argument(&self, at: usize) -> Result<Element<Argument<Expr>>, Stop>
         requires within { at ≤ length self.now.reader.tokens.now }
         requires no_end { head_continuation (rest self.now.reader.tokens.now at) ≢ closes role.paren }
         ensures { AnswersArgument self.now.reader at result }
@@ -65,20 +67,24 @@ impl<'t, R: ReadsInner> Parser<'t, R> {
                 expr,
                 edge: _,
                 next,
+                behind,
             } = self.deeper(at + 1, LEAST_POWER)?;
-            return Ok(Entry {
+            return Ok(Element {
                 item: Argument::Spread(expr),
                 next,
+                behind,
             });
         }
         let Read {
             expr,
             edge: _,
             next,
+            behind,
         } = self.deeper(at, LEAST_POWER)?;
-        Ok(Entry {
+        Ok(Element {
             item: Argument::Value(expr),
             next,
+            behind,
         })
     }
 
@@ -93,13 +99,13 @@ impl<'t, R: ReadsInner> Parser<'t, R> {
         loop {
             let entry = self.argument(next)?;
             items.push(entry.item)?;
-            if ends_with(self.reader.tokens, entry.next, Closer::Paren) {
+            if closed_by(entry.behind, Closer::Paren) {
                 return Ok(Listed {
                     items,
                     next: entry.next + 1,
                 });
             }
-            if !ends_with(self.reader.tokens, entry.next, Closer::Comma) {
+            if !closed_by(entry.behind, Closer::Comma) {
                 return Err(Stop::Syntax(entry.next));
             }
             next = entry.next + 1;
@@ -137,13 +143,13 @@ impl<'t, R: ReadsInner> Parser<'t, R> {
         loop {
             let value = self.deeper(next, LEAST_POWER)?;
             items.push(value.expr)?;
-            if ends_with(self.reader.tokens, value.next, Closer::Paren) {
+            if closed_by(value.behind, Closer::Paren) {
                 return Ok(Listed {
                     items,
                     next: value.next + 1,
                 });
             }
-            if !ends_with(self.reader.tokens, value.next, Closer::Comma) {
+            if !closed_by(value.behind, Closer::Comma) {
                 return Err(Stop::Syntax(value.next));
             }
             next = value.next + 1;
@@ -162,13 +168,14 @@ impl<'t, R: ReadsInner> Parser<'t, R> {
         let values = self.values(paren + 1)?;
         Ok(Taken {
             next: values.next,
+            behind: next_at(self.reader.tokens, values.next),
             expr: is_set_expr(spot(self.reader.tokens, at), values.items),
             edge: TOP,
         })
     }
 
     /// An item with a key, from behind its `=>`.
-    fn keyed(&self, at: usize, key: Expr) -> Result<Entry<Item<Expr>>, Stop>
+    fn keyed(&self, at: usize, key: Expr) -> Result<Element<Item<Expr>>, Stop>
         requires within { at ≤ length self.now.reader.tokens.now }
         requires deep { 2 ≤ self.now.reader.room }
         requires flat { is_flat key ≡ true }
@@ -179,25 +186,29 @@ impl<'t, R: ReadsInner> Parser<'t, R> {
                 expr,
                 edge: _,
                 next,
+                behind,
             } = self.deeper(at + 1, LEAST_POWER)?;
-            return Ok(Entry {
+            return Ok(Element {
                 item: Item::KeyedReference(key, expr),
                 next,
+                behind,
             });
         }
         let Read {
             expr,
             edge: _,
             next,
+            behind,
         } = self.deeper(at, LEAST_POWER)?;
-        Ok(Entry {
+        Ok(Element {
             item: Item::Keyed(key, expr),
             next,
+            behind,
         })
     }
 
     /// An item that is not missing.
-    fn item(&self, at: usize, form: ArrayForm) -> Result<Entry<Item<Expr>>, Stop>
+    fn item(&self, at: usize, form: ArrayForm) -> Result<Element<Item<Expr>>, Stop>
         requires within { at ≤ length self.now.reader.tokens.now }
         requires no_comma { head_continuation (rest self.now.reader.tokens.now at) ≢ closes role.comma }
         requires no_end { head_continuation (rest self.now.reader.tokens.now at) ≢ closes (closer_in form) }
@@ -211,23 +222,27 @@ impl<'t, R: ReadsInner> Parser<'t, R> {
                 expr,
                 edge: _,
                 next,
+                behind,
             } = self.deeper(at + 1, LEAST_POWER)?;
-            return Ok(Entry {
+            return Ok(Element {
                 item: Item::Reference(expr),
                 next,
+                behind,
             });
         }
         let Read {
             expr,
             edge: _,
             next,
+            behind,
         } = self.deeper(at, LEAST_POWER)?;
-        if ends_with(self.reader.tokens, next, Closer::DoubleArrow) {
+        if closed_by(behind, Closer::DoubleArrow) {
             return self.keyed(next + 1, expr);
         }
-        Ok(Entry {
+        Ok(Element {
             item: Item::Value(expr),
             next,
+            behind,
         })
     }
 
@@ -239,7 +254,8 @@ impl<'t, R: ReadsInner> Parser<'t, R> {
         let mut items = Items::new(self.reader.alloc);
         let mut next = at;
         loop {
-            if ends_with(self.reader.tokens, next, closer_of(form)) {
+            let due = next_at(self.reader.tokens, next);
+            if closed_by(due, closer_of(form)) {
                 if self.reader.room == 1 {
                     return Err(Stop::TooDeep(next));
                 }
@@ -248,7 +264,7 @@ impl<'t, R: ReadsInner> Parser<'t, R> {
                     next: next + 1,
                 });
             }
-            if ends_with(self.reader.tokens, next, Closer::Comma) {
+            if closed_by(due, Closer::Comma) {
                 if self.reader.room == 1 {
                     return Err(Stop::TooDeep(next));
                 }
@@ -257,13 +273,13 @@ impl<'t, R: ReadsInner> Parser<'t, R> {
             } else {
                 let entry = self.item(next, form)?;
                 items.push(entry.item)?;
-                if ends_with(self.reader.tokens, entry.next, closer_of(form)) {
+                if closed_by(entry.behind, closer_of(form)) {
                     return Ok(Listed {
                         items,
                         next: entry.next + 1,
                     });
                 }
-                if !ends_with(self.reader.tokens, entry.next, Closer::Comma) {
+                if !closed_by(entry.behind, Closer::Comma) {
                     return Err(Stop::Syntax(entry.next));
                 }
                 next = entry.next + 1;
@@ -279,6 +295,7 @@ impl<'t, R: ReadsInner> Parser<'t, R> {
         let items = self.items(at + 1, ArrayForm::Brackets)?;
         Ok(Taken {
             next: items.next,
+            behind: next_at(self.reader.tokens, items.next),
             expr: array_expr(
                 spot(self.reader.tokens, at),
                 ArrayForm::Brackets,
@@ -301,6 +318,7 @@ impl<'t, R: ReadsInner> Parser<'t, R> {
         let items = self.items(paren + 1, form)?;
         Ok(Taken {
             next: items.next,
+            behind: next_at(self.reader.tokens, items.next),
             expr: array_expr(spot(self.reader.tokens, at), form, items.items),
             edge: TOP,
         })

@@ -25,7 +25,7 @@ use php_lex::Tokens;
 use php_reader::Stop;
 use php_reader::limit::{LEAST_POWER, OPEN_EXIT, TOP};
 use php_reader::look::{
-    ends_with, member_at, name_at, sees_paren, sees_right_paren, spot, text_at,
+    closed_by, member_at, name_at, next_at, sees_paren, sees_right_paren, spot, text_at,
 };
 use php_reader::role::{Closer, LeafKind, Opening};
 use std::alloc::Global;
@@ -54,6 +54,7 @@ impl<'t, R: ReadsInner> Parser<'t, R> {
             expr: leaf_expr(self.reader.alloc, self.reader.tokens, at, kind)?,
             edge: TOP,
             next: at + 1,
+            behind: next_at(self.reader.tokens, at + 1),
         })
     }
 
@@ -71,6 +72,7 @@ impl<'t, R: ReadsInner> Parser<'t, R> {
             expr: static_member_expr(self.reader.alloc, spot(self.reader.tokens, at), member)?,
             edge: TOP,
             next: colons + 1 + 1,
+            behind: next_at(self.reader.tokens, colons + 1 + 1),
         })
     }
 
@@ -80,11 +82,12 @@ impl<'t, R: ReadsInner> Parser<'t, R> {
         ensures { AnswersLeaf self.now.reader at result }
     {
         let inside = self.deeper(at + 1, LEAST_POWER)?;
-        if !ends_with(self.reader.tokens, inside.next, Closer::Paren) {
+        if !closed_by(inside.behind, Closer::Paren) {
             return Err(Stop::Syntax(inside.next));
         }
         Ok(Taken {
             next: inside.next + 1,
+            behind: next_at(self.reader.tokens, inside.next + 1),
             expr: group_expr(self.reader.alloc, spot(self.reader.tokens, at), inside.expr)?,
             edge: TOP,
         })
@@ -100,11 +103,12 @@ impl<'t, R: ReadsInner> Parser<'t, R> {
             return Err(Stop::Syntax(paren));
         }
         let inside = self.deeper(paren + 1, LEAST_POWER)?;
-        if !ends_with(self.reader.tokens, inside.next, Closer::Paren) {
+        if !closed_by(inside.behind, Closer::Paren) {
             return Err(Stop::Syntax(inside.next));
         }
         Ok(Taken {
             next: inside.next + 1,
+            behind: next_at(self.reader.tokens, inside.next + 1),
             expr: empty_expr(self.reader.alloc, spot(self.reader.tokens, at), inside.expr)?,
             edge: TOP,
         })
@@ -121,6 +125,7 @@ impl<'t, R: ReadsInner> Parser<'t, R> {
                 expr: exit_expr(spot(self.reader.tokens, at)),
                 edge: OPEN_EXIT,
                 next: paren,
+                behind: next_at(self.reader.tokens, paren),
             });
         }
         if sees_right_paren(self.reader.tokens, paren + 1) {
@@ -131,14 +136,16 @@ impl<'t, R: ReadsInner> Parser<'t, R> {
                 expr: exit_empty_expr(spot(self.reader.tokens, at)),
                 edge: TOP,
                 next: paren + 1 + 1,
+                behind: next_at(self.reader.tokens, paren + 1 + 1),
             });
         }
         let inside = self.deeper(paren + 1, LEAST_POWER)?;
-        if !ends_with(self.reader.tokens, inside.next, Closer::Paren) {
+        if !closed_by(inside.behind, Closer::Paren) {
             return Err(Stop::Syntax(inside.next));
         }
         Ok(Taken {
             next: inside.next + 1,
+            behind: next_at(self.reader.tokens, inside.next + 1),
             expr: exit_with_expr(self.reader.alloc, spot(self.reader.tokens, at), inside.expr)?,
             edge: TOP,
         })

@@ -4,14 +4,16 @@ ghost use Rattle.std.specs.Prelude.{◌≡◌, ◌≤◌, ◌<◌, ◌+◌, ◌*
 ghost use Rattle.php_build.specs.Flat.{is_flat, is_flat_leaf, is_flat_suffix};
 
 use php_ast::{Expr, Suffix};
+use php_reader::role::Next;
 use sqlite_items::Items;
 
-/// An expression, what an operator behind it must draw less than, and the place behind it.
+/// An expression, what an operator behind it must draw less than, the place behind it, and what the token there does.
 #[derive(Drop)]
 pub struct Read {
     pub expr: Expr,
     pub edge: u8,
     pub next: usize,
+    pub behind: Next,
     pub ghost flat: { is_flat expr ≡ true },
 }
 
@@ -21,6 +23,7 @@ pub(crate) struct Taken {
     pub(crate) expr: Expr,
     pub(crate) edge: u8,
     pub(crate) next: usize,
+    pub(crate) behind: Next,
     ghost flat: { is_flat_leaf expr ≡ true },
 }
 
@@ -32,6 +35,7 @@ pub struct Operand {
     /// Whether its last suffix is a call.
     pub is_call: bool,
     pub next: usize,
+    pub behind: Next,
     pub ghost flat: { is_flat expr ≡ true },
 }
 
@@ -49,6 +53,14 @@ pub(crate) struct Followed {
 pub(crate) struct Listed<T> {
     pub(crate) items: Items<T>,
     pub(crate) next: usize,
+}
+
+/// One part of a list or of a `new`, the place behind it, and what the token there does.
+#[derive(Drop)]
+pub(crate) struct Element<T> {
+    pub(crate) item: T,
+    pub(crate) next: usize,
+    pub(crate) behind: Next,
 }
 
 /// One thing, and the place behind it.

@@ -1,7 +1,7 @@
 // Suffixes of operands.
 
-ghost use Rattle.std.specs.Prelude.{◌≡◌, ◌≤◌, ◌<◌, ◌+◌, ◌-◌, ℕ, length, true, false};
-ghost use Rattle.php_token.specs.Token.{token_at};
+ghost use Rattle.std.specs.Prelude.{◌≡◌, ◌≤◌, ◌<◌, ◌+◌, ◌-◌, ℕ, List, length, true, false};
+ghost use Rattle.php_token.specs.Token.{Token, token_at};
 ghost use Rattle.php_ast.specs.expression.Proper.{ends};
 ghost use Rattle.php_ast.specs.expression.Placed.{size};
 ghost use Rattle.php_grammar.specs.expression.Role as role;
@@ -10,8 +10,8 @@ ghost use Rattle.php_grammar.specs.expression.Machine.{Form};
 ghost use Rattle.php_ast.specs.expression.Tree.{thin, colons};
 ghost use Rattle.php_parse_operands.specs.Answer.{AnswersOperand, AnswersSuffix, SeesTail};
 ghost use Rattle.php_reader.specs.declared.role.Opening.TheVariants.{Static};
-ghost use Rattle.php_reader.specs.Seen.{Shows, test, rest};
-ghost use Rattle.php_reader.specs.RoleView.{opening_view, tail_view};
+ghost use Rattle.php_reader.specs.Seen.{Follows, Shows, test, rest};
+ghost use Rattle.php_reader.specs.RoleView.{next_view, opening_view, tail_view};
 
 use crate::inner::ReadsInner;
 use crate::parser::Parser;
@@ -21,16 +21,16 @@ use php_build::build::{chain_expr, property_suffix};
 use php_lex::Tokens;
 use php_reader::Stop;
 use php_reader::limit::{LEAST_POWER, TOP};
-use php_reader::look::{ends_with, member_at, next_at, sees_left_brace, sees_right_bracket};
+use php_reader::look::{closed_by, member_at, next_at, sees_left_brace, sees_right_bracket};
 use php_reader::role::{Closer, Next, Opening, Tail, tail_strength};
 use sqlite_items::Items;
 use std::alloc::Global;
 
-/// The suffix at a place behind an operand that is open to what draws less than `edge`.
-fn suffix_at(tokens: &Tokens, at: usize, edge: u8) -> Option<Tail>
-    ensures { SeesTail tokens.now at edge result }
+/// The suffix that begins with a token which does this, behind an operand that is open to what draws less than `edge`.
+fn suffix_of(behind: Next, edge: u8) -> Option<Tail>
+    ensures { (tokens : List Token) (at : ℕ) → Follows tokens at (next_view behind) → SeesTail tokens at edge result }
 {
-    let Next::Suffix(tail) = next_at(tokens, at) else {
+    let Next::Suffix(tail) = behind else {
         return None;
     };
     if edge <= tail_strength(tail) {
@@ -93,8 +93,9 @@ impl<'t, R: ReadsInner> Parser<'t, R> {
             expr,
             edge: _,
             next,
+            behind,
         } = self.deeper(inside, LEAST_POWER)?;
-        if !ends_with(self.reader.tokens, next, Closer::Bracket) {
+        if !closed_by(behind, Closer::Bracket) {
             return Err(Stop::Syntax(next));
         }
         Ok(Followed {
@@ -115,8 +116,9 @@ impl<'t, R: ReadsInner> Parser<'t, R> {
             expr,
             edge: _,
             next,
+            behind,
         } = self.deeper(brace + 1, LEAST_POWER)?;
-        if !ends_with(self.reader.tokens, next, Closer::Brace) {
+        if !closed_by(behind, Closer::Brace) {
             return Err(Stop::Syntax(next));
         }
         Ok(Followed {
@@ -173,21 +175,24 @@ impl<'t, R: ReadsInner> Parser<'t, R> {
             expr: first,
             mut edge,
             mut next,
+            mut behind,
         } = self.leaf(at, opening)?;
         let mut suffixes = Items::new(self.reader.alloc);
         let mut is_call = false;
-        while let Some(tail) = suffix_at(self.reader.tokens, next, edge) {
+        while let Some(tail) = suffix_of(behind, edge) {
             let found = self.suffix(next, tail)?;
             suffixes.push(found.suffix)?;
             edge = TOP;
             is_call = found.is_call;
             next = found.next;
+            behind = next_at(self.reader.tokens, next);
         }
         Ok(Operand {
             expr: chain_expr(self.reader.alloc, first, suffixes)?,
             edge,
             is_call,
             next,
+            behind,
         })
     }
 }

@@ -15,7 +15,7 @@ use php_build::build::template_expr;
 use php_lex::Tokens;
 use php_reader::Stop;
 use php_reader::limit::{LEAST_POWER, TOP};
-use php_reader::look::{ends_with, mold_at, spot, text_at};
+use php_reader::look::{closed_by, mold_at, next_at, spot, text_at};
 use php_reader::role::{Closer, Mold};
 use sqlite_items::Items;
 use std::alloc::Global;
@@ -30,8 +30,9 @@ impl<'t, R: ReadsInner> Parser<'t, R> {
             expr,
             edge: _,
             next,
+            behind,
         } = self.deeper(at + 1, LEAST_POWER)?;
-        if !ends_with(self.reader.tokens, next, Closer::EndPart) {
+        if !closed_by(behind, Closer::EndPart) {
             return Err(Stop::Syntax(next));
         }
         Ok(Entry {
@@ -81,6 +82,7 @@ impl<'t, R: ReadsInner> Parser<'t, R> {
         let pieces = self.pieces(at + 1)?;
         Ok(Taken {
             next: pieces.next,
+            behind: next_at(self.reader.tokens, pieces.next),
             expr: template_expr(spot(self.reader.tokens, at), pieces.items),
             edge: TOP,
         })

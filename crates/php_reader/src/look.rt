@@ -1,8 +1,8 @@
 // Looks at the token at a place.
 
-ghost use Rattle.std.specs.Prelude.{◌≡◌, ◌≢◌, ◌<◌, ◌^◌, ◌+◌, List, length, true, false, Some, None, [], map, drop, IfOk};
+ghost use Rattle.std.specs.Prelude.{◌≡◌, ◌≢◌, ◌<◌, ◌^◌, ◌+◌, ℕ, List, length, true, false, Some, None, [], map, drop, IfOk};
 ghost use Rattle.php_ast.specs.Symbol.{symbol};
-ghost use Rattle.php_token.specs.Token.{token_at};
+ghost use Rattle.php_token.specs.Token.{Token, token_at};
 ghost use Rattle.php_ast.specs.expression.Proper.{may_name};
 ghost use Rattle.php_grammar.specs.expression.Role.{closes, continuation, refers, spreads, is_ampersand, is_colon, is_left_brace, is_paren, is_right_bracket, is_right_paren};
 ghost use Rattle.php_grammar.specs.expression.Laws.{head_continuation};
@@ -94,15 +94,23 @@ pub fn sees_reference(tokens: &Tokens, at: usize) -> bool
     is_reference(tokens.kind(at))
 }
 
+/// Whether a token that does this behind an expression is the one that ends it so.
+pub fn closed_by(behind: Next, closer: Closer) -> bool
+    ensures yes { result ≡ true → (tokens : List Token) (at : ℕ) → Follows tokens at (next_view behind) → Shows continuation tokens at (closes (closer_view closer)) }
+    ensures no { result ≡ false → (tokens : List Token) (at : ℕ) → Follows tokens at (next_view behind) → head_continuation (rest tokens at) ≢ closes (closer_view closer) }
+{
+    match behind {
+        Next::Closes(found) => found == closer,
+        _ => false,
+    }
+}
+
 /// Whether this token, which ends an expression, stands at a place.
 pub fn ends_with(tokens: &Tokens, at: usize, closer: Closer) -> bool
     ensures yes { result ≡ true → Shows continuation tokens.now at (closes (closer_view closer)) }
     ensures no { result ≡ false → head_continuation (rest tokens.now at) ≢ closes (closer_view closer) }
 {
-    match next_at(tokens, at) {
-        Next::Closes(found) => found == closer,
-        _ => false,
-    }
+    closed_by(next_at(tokens, at), closer)
 }
 
 /// Whether `(` stands at a place.

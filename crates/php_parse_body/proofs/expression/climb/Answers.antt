@@ -7,7 +7,7 @@ use Rattle.php_reader.specs.Seen.{rest}
 use Rattle.php_parse_operands.specs.Answer.{Found}
 use Rattle.php_parse_body.specs.Climb.{Pends}
 use Rattle.php_parse_operands.proofs.Fails.{later, fewer}
-use Rattle.php_parse_body.proofs.Pendings.{row_bounds, closes, opened, settled, waits_behind, pends_push, pends_pop, pends_fail}
+use Rattle.php_parse_body.proofs.Pendings.{row_bounds, closes, opened, settled, waits_behind, pends_push, pends_pop, pends_fail, length_push}
 use Rattle.php_parse_body.proofs.expression.climb.Goals as goal
 
 pub returns-in_err-longer-in-Some : goal.returns-in_err-longer-in-Some
@@ -52,7 +52,7 @@ loop-op-preserved g c =
     let v = c.loop-op.invariant in
     let p = pends_pop c.args.parser.now.reader.room c.args.least c.args.parser.now.reader.tokens.now c.args.at c.pop.new.self c.in-Some-pop.outer c.loop-op.inner v.inner_at c.requires.some c.requires.small
     (subst (λ ps. Pends c.args.parser.now.reader.room c.args.least c.args.parser.now.reader.tokens.now c.args.at ps c.loop-op.inner v.inner_at) c.in-Some-pop.ensures v.pends) in
-    let f = settled c.args.parser.now.reader.tokens.now v.inner_at c.loop-op.inner c.loop-op.read (rw c.in-None.is at c.operator_at.ensures) v.found in
+    let f = settled c.args.parser.now.reader.tokens.now v.inner_at c.loop-op.inner c.loop-op.read ((rw c.in-None.is at c.operator_of.ensures) _ _ v.found.follows) v.found in
     record {
       inner_at = p.outer_at;
       pends = p.pends;
@@ -61,3 +61,19 @@ loop-op-preserved g c =
       some = p.some;
       most = p.low;
     }
+
+pub operator-requires-clause-here : goal.operator-requires-clause-here
+operator-requires-clause-here g c = (c.in-Some.ensures c.args.parser.now.reader.tokens.now c.loop-op.read.next c.loop-op.invariant.found.follows).0
+
+pub operator-requires-clause-near : goal.operator-requires-clause-near
+operator-requires-clause-near g c = (c.in-Some.ensures c.args.parser.now.reader.tokens.now c.loop-op.read.next c.loop-op.invariant.found.follows).1
+
+pub operator-requires-clause-low : goal.operator-requires-clause-low
+operator-requires-clause-low g c = (c.in-Some.ensures c.args.parser.now.reader.tokens.now c.loop-op.read.next c.loop-op.invariant.found.follows).2
+
+pub loop-op-smaller-in-Inside : goal.loop-op-smaller-in-Inside
+loop-op-smaller-in-Inside g c =
+    let v = c.loop-op.invariant in
+    let k = (rw c.in-Inside.is at c.in_ok-longer-in-Some.ensures) v.found.form v.inner_at v.found.spans v.found.edge_is in
+    let r = c.in_ok-read-in-Inside.ensures in
+    omega (arith, k.1, k.0.within, r.ahead, r.within, length_push c.loop-op.pending _ c.in-Inside.outer c.in_ok-push-in-Inside.ensures.ok)

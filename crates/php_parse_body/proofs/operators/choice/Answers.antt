@@ -13,12 +13,12 @@ returns-in-Err g c = λ f start spans is.
     rw c.discard.ensures (between c.args.parser.now.reader.tokens.now c.args.left.next (c.args.left.next + 1) (then_open f) c.in-Err.stop (omega arith) c.args.parser.now.deep refl (λ d. refl)
     (then_opens o.token f o.stands.is o.role_is c.requires.near (omega arith) c.if-sees_colon.ensures c.args.parser.now.deep) c.in-Err.ensures)
 
-pub returns-then-not-ends_with : goal.returns-then-not-ends_with
-returns-then-not-ends_with g c = λ f start spans is.
+pub returns-then-not-closed_by : goal.returns-then-not-closed_by
+returns-then-not-closed_by g c = λ f start spans is.
     let o = c.requires.here in
     let r = c.in-Ok.ensures in
-    rw (c.discard-then-not-ends_with.ensures, c.unclosed.ensures) (record {
-      halts = then_unclosed f r.form (omega arith) (then_opens o.token f o.stands.is o.role_is c.requires.near (omega arith) c.if-sees_colon.ensures c.args.parser.now.deep) r.reads c.args.parser.now.deep r.rests (c.if-not-ends_with.ensures.no refl);
+    rw (c.discard-then-not-closed_by.ensures, c.unclosed.ensures) (record {
+      halts = then_unclosed f r.form (omega arith) (then_opens o.token f o.stands.is o.role_is c.requires.near (omega arith) c.if-sees_colon.ensures c.args.parser.now.deep) r.reads c.args.parser.now.deep r.rests (c.if-not-closed_by.ensures.no refl _ _ r.follows);
       ahead = omega (arith, r.ahead);
       within = r.within;
     })
@@ -51,3 +51,6 @@ returns g c = λ f start spans is.
     (leads (λ s. expects (then_open f ∷ s)) (then_opens o.token f o.stands.is o.role_is c.requires.near (omega arith) c.if-sees_colon.ensures c.args.parser.now.deep)
     (inside (c.args.parser.now.reader.room - 1) LEAST_POWER (then_open f) (inl refl) (omega arith) (λ d. omega arith) r.reads))
     (c.half_choice.ensures (omega arith) f r.form start spans r.spans)
+
+pub half_choice-requires-clause-colon : goal.half_choice-requires-clause-colon
+half_choice-requires-clause-colon g c = c.if-not-closed_by.ensures.yes refl _ _ c.in-Ok.ensures.follows

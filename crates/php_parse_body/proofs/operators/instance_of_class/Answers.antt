@@ -32,6 +32,7 @@ returns g c = λ least near f start spans is.
       reads = instance_reads f r.form near (instance_opens o.token f o.stands.is o.role_is near (omega arith) c.args.parser.now.deep) r.reads (r.call_is ∙ c.if-class.false) r.rests;
       edge_is = sym c.instance_of_edge.ensures;
       rests = instance_rests (instance_of f r.form) _ refl;
+      follows = r.follows;
       bare = λ h. cc;
       ahead = omega (arith, r.ahead);
       within = r.within;

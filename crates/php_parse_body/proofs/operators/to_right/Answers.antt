@@ -32,6 +32,7 @@ returns g c = λ least near f start spans is.
           (binary_opens o.token c.args.op f o.stands.is o.role_is near (omega arith) c.args.parser.now.deep) r.reads r.rests;
       edge_is = omega (arith, r.edge_is, d);
       rests = operator_rests (binary_open c.args.op f) r.form c.right_of.result _ (omega (arith, b.0)) (omega (arith, b.1)) (omega (arith, l)) r.rests;
+      follows = r.follows;
       bare = r.bare;
       ahead = omega (arith, r.ahead);
       within = r.within;

@@ -26,6 +26,7 @@ returns g c = λ f start spans low.
           (reference_opens o.token u.token f o.stands.is o.role_is low u.stands.is u.role_is c.args.parser.now.deep) r.reads r.rests;
       edge_is = omega (arith, r.edge_is);
       rests = operator_rests (assign_open by_reference f) r.form c.value_power.result _ (omega arith) (omega arith) c.value_power.ensures r.rests;
+      follows = r.follows;
       bare = r.bare;
       ahead = omega (arith, r.ahead);
       within = r.within;

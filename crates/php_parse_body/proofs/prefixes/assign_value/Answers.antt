@@ -24,6 +24,7 @@ returns g c = λ f start spans low.
           (value_opens o.token c.args.op f o.stands.is o.role_is low c.requires.no_reference c.args.parser.now.deep) r.reads r.rests;
       edge_is = omega (arith, r.edge_is);
       rests = operator_rests (assign_open (by_value c.args.op) f) r.form c.value_power.result _ (omega arith) (omega arith) c.value_power.ensures r.rests;
+      follows = r.follows;
       bare = r.bare;
       ahead = omega (arith, r.ahead);
       within = r.within;

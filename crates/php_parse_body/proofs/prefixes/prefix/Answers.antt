@@ -27,6 +27,7 @@ returns g c =
           (prefix_opens o.token c.args.op o.stands.is o.role_is c.args.parser.now.deep) r.reads r.rests;
       edge_is = omega (arith, r.edge_is);
       rests = operator_rests (prefix_open c.args.op) r.form (c.prefix_power_of-power.result + 1) _ (omega arith) (omega (arith, prefix_bound c.args.op)) (omega arith) r.rests;
+      follows = r.follows;
       bare = r.bare;
       ahead = omega (arith, r.ahead);
       within = r.within;

@@ -24,6 +24,7 @@ returns g c = λ k spans.
           (pair_opens o.token k o.stands.is o.role_is c.requires.deep) r.reads r.rests;
       edge_is = omega (arith, r.edge_is);
       rests = operator_rests (yield_value_open k) r.form c.yielded_power.result _ (omega arith) (omega arith) c.yielded_power.ensures r.rests;
+      follows = r.follows;
       bare = r.bare;
       ahead = omega (arith, r.ahead);
       within = r.within;

@@ -18,6 +18,7 @@ returns-in_ok-name_at-in-Some-Name g c =
       reads = class_reads o.token _ o.stands.is o.role_is c.args.self.now.deep;
       no_index = λ h. cc;
       no_arrow = λ h. cc;
+      follows = c.next_at.ensures;
       ahead = omega arith;
       within = omega (arith, o.stands.within);
     }
@@ -33,6 +34,7 @@ returns-in-Some-Static g c =
       reads = class_reads o.token _ o.stands.is o.role_is c.args.self.now.deep;
       no_index = λ h. cc;
       no_arrow = λ h. cc;
+      follows = c.next_at-in-Some-Static.ensures;
       ahead = omega arith;
       within = omega (arith, o.stands.within);
     }

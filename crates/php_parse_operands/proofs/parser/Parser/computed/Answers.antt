@@ -14,14 +14,14 @@ returns-in_err-expr g c = λ f start sized low.
     rw (q.1, q.2) (between c.args.self.now.reader.tokens.now c.args.at (c.args.at + 1 + 1) (computed_open f) c.in_err-expr.field-0.0 (omega arith) c.args.self.now.deep refl (λ d. refl)
     (computed_opens o.token b.token f o.stands.is o.role_is low b.stands.is b.role_is c.args.self.now.deep) c.in_err-expr.ensures)
 
-pub returns-then-not-ends_with : goal.returns-then-not-ends_with
-returns-then-not-ends_with g c = λ f start sized low.
+pub returns-then-not-closed_by : goal.returns-then-not-closed_by
+returns-then-not-closed_by g c = λ f start sized low.
     let o = c.requires.here in
     let b = c.requires.brace in
     let r = c.in_ok-expr.ensures in
     let deep = c.args.self.now.deep in
     record {
-      halts = computed_unclosed f r.form (computed_opens o.token b.token f o.stands.is o.role_is low b.stands.is b.role_is deep) r.reads deep r.rests (c.if-not-ends_with.ensures.no refl);
+      halts = computed_unclosed f r.form (computed_opens o.token b.token f o.stands.is o.role_is low b.stands.is b.role_is deep) r.reads deep r.rests (c.if-not-closed_by.ensures.no refl _ _ r.follows);
       ahead = omega (arith, r.ahead);
       within = r.within;
     }
@@ -31,7 +31,7 @@ returns g c = λ f start sized low.
     let o = c.requires.here in
     let b = c.requires.brace in
     let r = c.in_ok-expr.ensures in
-    let e = c.if-not-ends_with.ensures.yes refl in
+    let e = c.if-not-closed_by.ensures.yes refl _ _ r.follows in
     let deep = c.args.self.now.deep in
     record {
       form = computed f r.form;
@@ -42,3 +42,6 @@ returns g c = λ f start sized low.
       ahead = omega (arith, r.ahead);
       within = omega (arith, e.stands.within);
     }
+
+pub overflow_add-result : goal.overflow_add-result
+overflow_add-result g c = let e = c.if-not-closed_by.ensures.yes refl _ _ c.in_ok-expr.ensures.follows in omega (arith, e.stands.fits)

@@ -3,13 +3,13 @@ use Rattle.php_ast.specs.expression.Tree.{emptiness, enclosed}
 use Rattle.php_parse_operands.proofs.Productions.{empty_opens, enclosed_reads, enclosed_unclosed, enclosed_spans}
 use Rattle.php_parse_operands.proofs.parser.Parser.empty.Goals as goal
 
-pub returns-then-not-ends_with : goal.returns-then-not-ends_with
-returns-then-not-ends_with g c =
+pub returns-then-not-closed_by : goal.returns-then-not-closed_by
+returns-then-not-closed_by g c =
     let r = c.in_ok-inside.ensures in
     let o = c.requires.here in
     let p = c.if-not-sees_paren.ensures in
     record {
-      halts = enclosed_unclosed emptiness c.args.self.now.deep (empty_opens o.token p.token o.stands.is o.role_is p.stands.is p.role_is c.args.self.now.deep) r.reads r.rests (c.if-not-ends_with.ensures.no refl);
+      halts = enclosed_unclosed emptiness c.args.self.now.deep (empty_opens o.token p.token o.stands.is o.role_is p.stands.is p.role_is c.args.self.now.deep) r.reads r.rests (c.if-not-closed_by.ensures.no refl _ _ r.follows);
       ahead = omega (arith, r.ahead);
       within = r.within;
     }
@@ -19,7 +19,7 @@ returns g c =
     let r = c.in_ok-inside.ensures in
     let o = c.requires.here in
     let p = c.if-not-sees_paren.ensures in
-    let e = c.if-not-ends_with.ensures.yes refl in
+    let e = c.if-not-closed_by.ensures.yes refl _ _ r.follows in
     record {
       form = enclosed tt emptiness r.form;
       spans = enclosed_spans c.args.self.now.reader.tokens.now emptiness _ _ _ r.form c.args.at _ _ c.in_ok-empty_expr.ensures.shown c.spot.ensures r.spans (omega arith);
@@ -27,6 +27,13 @@ returns g c =
       edge_is = refl;
       opened = omega arith;
       no_call = refl;
+      follows = c.next_at.ensures;
       ahead = omega (arith, r.ahead);
       within = omega (arith, e.stands.within);
     }
+
+pub overflow_add-result : goal.overflow_add-result
+overflow_add-result g c = let e = c.if-not-closed_by.ensures.yes refl _ _ c.in_ok-inside.ensures.follows in omega (arith, e.stands.fits)
+
+pub overflow_add-inside : goal.overflow_add-inside
+overflow_add-inside g c = let e = c.if-not-closed_by.ensures.yes refl _ _ c.in_ok-inside.ensures.follows in omega (arith, e.stands.fits)

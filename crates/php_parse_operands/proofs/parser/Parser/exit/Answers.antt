@@ -16,6 +16,7 @@ returns-then-not-sees_paren g c =
       edge_is = refl;
       opened = omega arith;
       no_call = refl;
+      follows = c.next_at.ensures;
       ahead = omega arith;
       within = omega (arith, o.stands.within);
     }
@@ -43,6 +44,7 @@ returns-then-sees_right_paren g c =
       edge_is = refl;
       opened = omega arith;
       no_call = refl;
+      follows = c.next_at-then-sees_right_paren.ensures;
       ahead = omega arith;
       within = omega (arith, e.stands.within);
     }
@@ -55,14 +57,14 @@ returns-in_err-inside g c =
     rw (q.1, q.2) (between c.args.self.now.reader.tokens.now c.args.at (c.args.at + 1 + 1) (enclosed_open exiting) c.in_err-inside.field-0.0 (omega arith) c.args.self.now.deep refl (λ d. refl)
     (exit_opens o.token p.token o.stands.is o.role_is p.stands.is p.role_is c.if-sees_right_paren.ensures c.args.self.now.deep) c.in_err-inside.ensures)
 
-pub returns-then-not-ends_with : goal.returns-then-not-ends_with
-returns-then-not-ends_with g c =
+pub returns-then-not-closed_by : goal.returns-then-not-closed_by
+returns-then-not-closed_by g c =
     let r = c.in_ok-inside.ensures in
     let o = c.requires.here in
     let p = c.if-not-sees_paren.ensures in
     let deep = c.args.self.now.deep in
     record {
-      halts = enclosed_unclosed exiting deep (exit_opens o.token p.token o.stands.is o.role_is p.stands.is p.role_is c.if-sees_right_paren.ensures deep) r.reads r.rests (c.if-not-ends_with.ensures.no refl);
+      halts = enclosed_unclosed exiting deep (exit_opens o.token p.token o.stands.is o.role_is p.stands.is p.role_is c.if-sees_right_paren.ensures deep) r.reads r.rests (c.if-not-closed_by.ensures.no refl _ _ r.follows);
       ahead = omega (arith, r.ahead);
       within = r.within;
     }
@@ -72,7 +74,7 @@ returns g c =
     let r = c.in_ok-inside.ensures in
     let o = c.requires.here in
     let p = c.if-not-sees_paren.ensures in
-    let e = c.if-not-ends_with.ensures.yes refl in
+    let e = c.if-not-closed_by.ensures.yes refl _ _ r.follows in
     let deep = c.args.self.now.deep in
     record {
       form = enclosed tt exiting r.form;
@@ -81,6 +83,13 @@ returns g c =
       edge_is = refl;
       opened = omega arith;
       no_call = refl;
+      follows = c.next_at-2.ensures;
       ahead = omega (arith, r.ahead);
       within = omega (arith, e.stands.within);
     }
+
+pub overflow_add-result-2 : goal.overflow_add-result-2
+overflow_add-result-2 g c = let e = c.if-not-closed_by.ensures.yes refl _ _ c.in_ok-inside.ensures.follows in omega (arith, e.stands.fits)
+
+pub overflow_add-inside : goal.overflow_add-inside
+overflow_add-inside g c = let e = c.if-not-closed_by.ensures.yes refl _ _ c.in_ok-inside.ensures.follows in omega (arith, e.stands.fits)

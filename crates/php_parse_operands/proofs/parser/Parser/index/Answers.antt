@@ -34,13 +34,13 @@ returns-in_err-expr g c = λ f start sized low.
     rw (q.1, q.2) (between c.args.self.now.reader.tokens.now c.args.at (c.args.at + 1) (index_open f) c.in_err-expr.field-0.0 (omega arith) c.args.self.now.deep refl (λ d. refl)
     (index_opens o.token f o.stands.is o.role_is low c.if-sees_right_bracket.ensures c.args.self.now.deep) c.in_err-expr.ensures)
 
-pub returns-then-not-ends_with : goal.returns-then-not-ends_with
-returns-then-not-ends_with g c = λ f start sized low.
+pub returns-then-not-closed_by : goal.returns-then-not-closed_by
+returns-then-not-closed_by g c = λ f start sized low.
     let o = c.requires.here in
     let r = c.in_ok-expr.ensures in
     let deep = c.args.self.now.deep in
     record {
-      halts = index_unclosed f r.form (index_opens o.token f o.stands.is o.role_is low c.if-sees_right_bracket.ensures deep) r.reads deep r.rests (c.if-not-ends_with.ensures.no refl);
+      halts = index_unclosed f r.form (index_opens o.token f o.stands.is o.role_is low c.if-sees_right_bracket.ensures deep) r.reads deep r.rests (c.if-not-closed_by.ensures.no refl _ _ r.follows);
       ahead = omega (arith, r.ahead);
       within = r.within;
     }
@@ -49,7 +49,7 @@ pub returns : goal.returns
 returns g c = λ f start sized low.
     let o = c.requires.here in
     let r = c.in_ok-expr.ensures in
-    let e = c.if-not-ends_with.ensures.yes refl in
+    let e = c.if-not-closed_by.ensures.yes refl _ _ r.follows in
     let deep = c.args.self.now.deep in
     record {
       form = index f r.form;
@@ -60,3 +60,6 @@ returns g c = λ f start sized low.
       ahead = omega (arith, r.ahead);
       within = omega (arith, e.stands.within);
     }
+
+pub overflow_add-result-2 : goal.overflow_add-result-2
+overflow_add-result-2 g c = let e = c.if-not-closed_by.ensures.yes refl _ _ c.in_ok-expr.ensures.follows in omega (arith, e.stands.fits)

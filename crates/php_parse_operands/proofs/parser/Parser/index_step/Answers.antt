@@ -13,12 +13,12 @@ returns-in_err-expr g c =
     rw (q.1, q.2) (λ steps. between c.args.self.now.reader.tokens.now c.args.at (c.args.at + 1) (step_open steps) c.in_err-expr.field-0.0 (omega arith) c.args.self.now.deep refl (λ d. refl)
     (step_opens o.token steps o.stands.is o.role_is c.args.self.now.deep) c.in_err-expr.ensures)
 
-pub returns-then-not-ends_with : goal.returns-then-not-ends_with
-returns-then-not-ends_with g c = λ steps.
+pub returns-then-not-closed_by : goal.returns-then-not-closed_by
+returns-then-not-closed_by g c = λ steps.
     let o = c.requires.here in
     let r = c.in_ok-expr.ensures in
     record {
-      halts = step_index_unclosed steps r.form (step_opens o.token steps o.stands.is o.role_is c.args.self.now.deep) r.reads c.args.self.now.deep r.rests (c.if-not-ends_with.ensures.no refl);
+      halts = step_index_unclosed steps r.form (step_opens o.token steps o.stands.is o.role_is c.args.self.now.deep) r.reads c.args.self.now.deep r.rests (c.if-not-closed_by.ensures.no refl _ _ r.follows);
       ahead = omega (arith, r.ahead);
       within = r.within;
     }
@@ -27,7 +27,7 @@ pub returns : goal.returns
 returns g c =
     let o = c.requires.here in
     let r = c.in_ok-expr.ensures in
-    let e = c.if-not-ends_with.ensures.yes refl in
+    let e = c.if-not-closed_by.ensures.yes refl _ _ r.follows in
     record {
       more = λ steps. step_index steps r.form;
       shown = λ steps start sized. step_index_shown c.args.self.now.reader.tokens.now steps _ r.form start c.args.at _ sized r.spans;
@@ -37,3 +37,6 @@ returns g c =
       ahead = omega (arith, r.ahead);
       within = omega (arith, e.stands.within);
     }
+
+pub overflow_add-result : goal.overflow_add-result
+overflow_add-result g c = let e = c.if-not-closed_by.ensures.yes refl _ _ c.in_ok-expr.ensures.follows in omega (arith, e.stands.fits)

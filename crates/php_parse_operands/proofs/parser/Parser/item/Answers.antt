@@ -36,6 +36,7 @@ returns-then-sees_reference g c =
       flat = c.in_ok-expr.field-0.flat;
       reads = λ items. item_in (of_list (array c.args.form)) items reference r.form (reference_opens o.token (of_list (array c.args.form)) items o.stands.is o.role_is refl (omega arith)) r.reads deep;
       rests = r.rests;
+      follows = r.follows;
       no_key = λ a. cc;
       deep = omega (arith, r.deep);
       ahead = omega (arith, r.ahead);
@@ -48,10 +49,10 @@ returns-in_err-expr-2 g c =
     rw (q.1, q.2) (λ items. between c.args.self.now.reader.tokens.now c.args.at c.args.at (items_open (of_list (array c.args.form)) items plain) c.in_err-expr-2.field-0.0 (omega arith) c.args.self.now.deep refl (λ d. refl)
     (item_opens c.args.form items c.if-sees_reference.ensures c.requires.no_comma c.requires.no_end) c.in_err-expr-2.ensures)
 
-pub returns-then-ends_with : goal.returns-then-ends_with
-returns-then-ends_with g c =
+pub returns-then-closed_by : goal.returns-then-closed_by
+returns-then-closed_by g c =
     let r = c.in_ok-expr-2.ensures in
-    let e = c.if-ends_with.ensures.yes refl in
+    let e = c.if-closed_by.ensures.yes refl _ _ r.follows in
     item_keyed c.args.form c.args.self.now.reader c.args.at c.in_ok-expr-2.field-0.next r.form _ _ r.spans r.deep (omega (arith, r.ahead))
     (λ items. leads (λ s. holds r.form (items_open (of_list (array c.args.form)) items plain ∷ s))
     (item_in (of_list (array c.args.form)) items plain r.form (item_opens c.args.form items c.if-sees_reference.ensures c.requires.no_comma c.requires.no_end) r.reads c.args.self.now.deep)
@@ -69,8 +70,15 @@ returns g c =
       flat = c.in_ok-expr-2.field-0.flat;
       reads = λ items. item_in (of_list (array c.args.form)) items plain r.form (item_opens c.args.form items c.if-sees_reference.ensures c.requires.no_comma c.requires.no_end) r.reads c.args.self.now.deep;
       rests = r.rests;
-      no_key = λ a. c.if-ends_with.ensures.no refl;
+      follows = r.follows;
+      no_key = λ a. c.if-closed_by.ensures.no refl _ _ r.follows;
       deep = omega (arith, r.deep);
       ahead = omega (arith, r.ahead);
       within = r.within;
     }
+
+pub overflow_add-next : goal.overflow_add-next
+overflow_add-next g c = let e = c.if-closed_by.ensures.yes refl _ _ c.in_ok-expr-2.ensures.follows in omega (arith, e.stands.fits)
+
+pub keyed-requires-clause-within : goal.keyed-requires-clause-within
+keyed-requires-clause-within g c = let e = c.if-closed_by.ensures.yes refl _ _ c.in_ok-expr-2.ensures.follows in omega (arith, e.stands.within)

@@ -32,6 +32,7 @@ returns-then-sees_ampersand g c =
       flat = both c.requires.flat c.in_ok-expr.field-0.flat;
       reads = λ form items k. item_in (of_list (array form)) items (keyed_reference k) r.form (keyed_reference_opens o.token form items k o.stands.is o.role_is c.requires.deep) r.reads c.args.self.now.deep;
       rests = r.rests;
+      follows = r.follows;
       ahead = omega (arith, r.ahead);
       within = r.within;
     }
@@ -56,6 +57,7 @@ returns g c =
       flat = both c.requires.flat c.in_ok-expr-2.field-0.flat;
       reads = λ form items k. item_in (of_list (array form)) items (keyed k) r.form (value_enters (of_list (array form)) items k c.if-sees_ampersand.ensures) r.reads c.args.self.now.deep;
       rests = r.rests;
+      follows = r.follows;
       ahead = omega (arith, r.ahead);
       within = r.within;
     }

@@ -14,17 +14,18 @@ returns-in_err-class g c =
     let q = err_from_is_err_and c.from_residual.result c.from_residual.ensures.1 in
     rw (q.1, q.2) (later c.args.self.now.reader.tokens.now c.args.at (c.args.at + 1) (λ s. past_new s) c.in_err-class.field-0.0 (omega arith) (new_begins o.token o.stands.is o.role_is c.args.self.now.deep) c.in_err-class.ensures)
 
-pub returns-then-not-sees_arguments : goal.returns-then-not-sees_arguments
-returns-then-not-sees_arguments g c =
+pub returns-then-not-opens_arguments : goal.returns-then-not-opens_arguments
+returns-then-not-opens_arguments g c =
     let o = c.requires.here in
     let r = c.in_ok-class.ensures in
     record {
       form = new tt r.class;
       spans = new_spans c.args.self.now.reader.tokens.now _ _ _ r.class c.args.at _ c.in_ok-new_expr.ensures.shown c.spot.ensures r.shown r.sized;
-      reads = leads (λ s. past_new s) (new_begins o.token o.stands.is o.role_is c.args.self.now.deep) (leads (λ s. past_class r.class s) r.reads (class_ends r.class c.if-not-sees_arguments.ensures r.no_index r.no_arrow));
+      reads = leads (λ s. past_new s) (new_begins o.token o.stands.is o.role_is c.args.self.now.deep) (leads (λ s. past_class r.class s) r.reads (class_ends r.class (c.if-not-opens_arguments.ensures _ _ r.follows) r.no_index r.no_arrow));
       edge_is = refl;
       opened = omega arith;
       no_call = refl;
+      follows = r.follows;
       ahead = omega (arith, r.ahead);
       within = r.within;
     }
@@ -33,7 +34,7 @@ pub returns-in_err-arguments : goal.returns-in_err-arguments
 returns-in_err-arguments g c =
     let o = c.requires.here in
     let r = c.in_ok-class.ensures in
-    let a = c.if-not-sees_arguments.ensures in
+    let a = (c.if-not-opens_arguments.ensures _ _ r.follows) in
     let q = err_from_is_err_and c.from_residual-in_err-arguments.result c.from_residual-in_err-arguments.ensures.1 in
     rw (q.1, q.2) (later c.args.self.now.reader.tokens.now c.args.at (c.in_ok-class.class.next + 1) (λ s. past_items (of_new r.class) none s) c.in_err-arguments.field-0.0 (omega (arith, r.ahead))
     (leads (λ s. past_new s) (new_begins o.token o.stands.is o.role_is c.args.self.now.deep) (leads (λ s. past_class r.class s) r.reads (class_applies a.token r.class a.stands.is a.role_is c.args.self.now.deep)))
@@ -43,7 +44,7 @@ pub returns : goal.returns
 returns g c =
     let o = c.requires.here in
     let r = c.in_ok-class.ensures in
-    let a = c.if-not-sees_arguments.ensures in
+    let a = (c.if-not-opens_arguments.ensures _ _ r.follows) in
     let s = c.in_ok-arguments.ensures in
     record {
       form = new_with tt r.class s.items;
@@ -53,6 +54,13 @@ returns g c =
       edge_is = refl;
       opened = omega arith;
       no_call = refl;
+      follows = c.next_at.ensures;
       ahead = omega (arith, r.ahead, s.ahead);
       within = s.within;
     }
+
+pub overflow_add-class : goal.overflow_add-class
+overflow_add-class g c = let a = c.if-not-opens_arguments.ensures _ _ c.in_ok-class.ensures.follows in omega (arith, a.stands.fits)
+
+pub arguments-requires : goal.arguments-requires
+arguments-requires g c = let a = c.if-not-opens_arguments.ensures _ _ c.in_ok-class.ensures.follows in record { within = omega (arith, a.stands.within) }

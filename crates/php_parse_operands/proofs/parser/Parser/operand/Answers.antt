@@ -31,19 +31,20 @@ loop-tail-init g c =
         within = r.within;
       },
       c.in_ok-first.field-0.flat,
+      r.follows,
     )
 
 pub returns-in_err-found : goal.returns-in_err-found
 returns-in_err-found g c =
     let v = c.loop-tail.invariant.0 in
-    let d = c.in-Some.ensures in
+    let d = c.in-Some.ensures c.args.self.now.reader.tokens.now c.loop-tail.next c.loop-tail.invariant.2 in
     let q = err_from_is_err_and c.from_residual-in_err-found.result c.from_residual-in_err-found.ensures.1 in
     rw (q.1, q.2) (later c.args.self.now.reader.tokens.now c.args.at c.loop-tail.next (λ s. after v.form s) c.in_err-found.field-0.0 (omega (arith, v.ahead)) v.reads (c.in_err-found.ensures v.form c.args.at v.spans.sized (omega (arith, d.1, v.edge_is))))
 
 pub loop-tail-preserved : goal.loop-tail-preserved
 loop-tail-preserved g c =
     let v = c.loop-tail.invariant.0 in
-    let d = c.in-Some.ensures in
+    let d = c.in-Some.ensures c.args.self.now.reader.tokens.now c.loop-tail.next c.loop-tail.invariant.2 in
     let r = c.in_ok-found.ensures v.form c.args.at v.spans.sized (omega (arith, d.1, v.edge_is)) in (
       record {
         form = r.form;
@@ -58,6 +59,7 @@ loop-tail-preserved g c =
         within = r.within;
       },
       c.loop-tail.invariant.1,
+      c.next_at-behind.ensures,
     )
 
 pub chain_expr-requires-clause-first : goal.chain_expr-requires-clause-first
@@ -74,7 +76,8 @@ returns g c =
       opened = v.opened;
       call_is = v.call_is;
       call_open = v.call_open;
-      rests = subst (λ k. Rests operand_level k (rest c.args.self.now.reader.tokens.now c.loop-tail.next)) (sym v.edge_is) (rw c.in_default.is at c.suffix_at.ensures);
+      rests = subst (λ k. Rests operand_level k (rest c.args.self.now.reader.tokens.now c.loop-tail.next)) (sym v.edge_is) ((rw c.in_default.is at c.suffix_of.ensures) _ _ c.loop-tail.invariant.2);
+      follows = c.loop-tail.invariant.2;
       ahead = v.ahead;
       within = v.within;
     }
@@ -82,6 +85,9 @@ returns g c =
 pub loop-tail-smaller : goal.loop-tail-smaller
 loop-tail-smaller g c =
     let v = c.loop-tail.invariant.0 in
-    let d = c.in-Some.ensures in
+    let d = c.in-Some.ensures c.args.self.now.reader.tokens.now c.loop-tail.next c.loop-tail.invariant.2 in
     let r = c.in_ok-found.ensures v.form c.args.at v.spans.sized (omega (arith, d.1, v.edge_is)) in
     omega (arith, r.ahead, r.within)
+
+pub suffix-requires : goal.suffix-requires
+suffix-requires g c = record { here = (c.in-Some.ensures c.args.self.now.reader.tokens.now c.loop-tail.next c.loop-tail.invariant.2).0 }

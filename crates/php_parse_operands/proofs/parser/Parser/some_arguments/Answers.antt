@@ -31,11 +31,11 @@ returns-in_err-entry g c =
     let q = err_from_is_err_and c.from_residual.result c.from_residual.ensures.1 in
     rw (q.1, q.2) (λ h is. later c.args.self.now.reader.tokens.now c.args.at c.loop-items.next (λ s. past_items h v.items s) c.in_err-entry.field-0.0 (omega (arith, v.sized)) (v.reads h is) (c.in_err-entry.ensures h v.items is))
 
-pub returns-then-ends_with : goal.returns-then-ends_with
-returns-then-ends_with g c =
+pub returns-then-closed_by : goal.returns-then-closed_by
+returns-then-closed_by g c =
     let v = c.loop-items.invariant in
     let i = c.in_ok-entry.ensures in
-    let e = c.if-ends_with.ensures.yes refl in
+    let e = c.if-closed_by.ensures.yes refl _ _ i.follows in
     record {
       items = and v.items i.lead i.form;
       spans = record {
@@ -49,15 +49,15 @@ returns-then-ends_with g c =
       within = omega (arith, e.stands.within);
     }
 
-pub returns-then-not-ends_with : goal.returns-then-not-ends_with
-returns-then-not-ends_with g c = λ h is.
+pub returns-then-not-closed_by : goal.returns-then-not-closed_by
+returns-then-not-closed_by g c = λ h is.
     let v = c.loop-items.invariant in
     let i = c.in_ok-entry.ensures in
     record {
       halts = leads_halts (λ s. past_items h v.items s) (v.reads h is) (leads_halts (λ s. holds i.form (items_open h v.items i.lead ∷ s)) (i.reads h v.items is)
           (item_unclosed h v.items i.lead i.form i.rests (record {
-            no_comma = c.if-not-ends_with.ensures.no refl;
-            no_paren = λ a. c.if-ends_with.ensures.no refl;
+            no_comma = c.if-not-closed_by.ensures.no refl _ _ i.follows;
+            no_paren = λ a. c.if-closed_by.ensures.no refl _ _ i.follows;
             no_bracket = λ a. let b = arguments_paren h is in cc;
             no_key = λ a. let b = arguments_no_array h is in cc;
           })));
@@ -65,12 +65,12 @@ returns-then-not-ends_with g c = λ h is.
       within = i.within;
     }
 
-pub returns-then-ends_with-2 : goal.returns-then-ends_with-2
-returns-then-ends_with-2 g c = λ h is.
+pub returns-then-ends_with : goal.returns-then-ends_with
+returns-then-ends_with g c = λ h is.
     let v = c.loop-items.invariant in
     let i = c.in_ok-entry.ensures in
-    let e = c.if-not-ends_with.ensures.yes refl in
-    let p = c.if-ends_with-2.ensures.yes refl in
+    let e = c.if-not-closed_by.ensures.yes refl _ _ i.follows in
+    let p = c.if-ends_with.ensures.yes refl in
     record {
       halts = leads_halts (λ s. past_items h v.items s) (v.reads h is) (leads_halts (λ s. holds i.form (items_open h v.items i.lead ∷ s)) (i.reads h v.items is)
           (leads_halts (λ s. past_items h (and v.items i.lead i.form) s) (comma_reads e.token h v.items i.lead i.form e.stands.is e.role_is i.deep)
@@ -83,7 +83,7 @@ pub loop-items-preserved : goal.loop-items-preserved
 loop-items-preserved g c =
     let v = c.loop-items.invariant in
     let i = c.in_ok-entry.ensures in
-    let e = c.if-not-ends_with.ensures.yes refl in
+    let e = c.if-not-closed_by.ensures.yes refl _ _ i.follows in
     record {
       items = and v.items i.lead i.form;
       shown = arguments_more c.args.self.now.reader.tokens.now c.args.at c.loop-items.next v.items i.lead i.form c.loop-items.items _ _ c.in_ok-push.ensures.ok v.shown v.sized i.shown;
@@ -91,12 +91,18 @@ loop-items-preserved g c =
       flat = all_push argument_flat (argument_with shape) c.loop-items.items _ _ c.in_ok-push.ensures.ok v.flat i.flat;
       reads = λ h is. leads (λ s. past_items h v.items s) (v.reads h is) (leads (λ s. holds i.form (items_open h v.items i.lead ∷ s)) (i.reads h v.items is)
           (comma_reads e.token h v.items i.lead i.form e.stands.is e.role_is i.deep));
-      no_end = c.if-ends_with-2.ensures.no refl;
+      no_end = c.if-ends_with.ensures.no refl;
       within = omega (arith, e.stands.within);
     }
 
 pub loop-items-smaller : goal.loop-items-smaller
 loop-items-smaller g c =
     let i = c.in_ok-entry.ensures in
-    let e = c.if-not-ends_with.ensures.yes refl in
+    let e = c.if-not-closed_by.ensures.yes refl _ _ i.follows in
     omega (arith, i.ahead, e.stands.within)
+
+pub overflow_add-result : goal.overflow_add-result
+overflow_add-result g c = let e = c.if-closed_by.ensures.yes refl _ _ c.in_ok-entry.ensures.follows in omega (arith, e.stands.fits)
+
+pub overflow_add-next : goal.overflow_add-next
+overflow_add-next g c = let e = c.if-not-closed_by.ensures.yes refl _ _ c.in_ok-entry.ensures.follows in omega (arith, e.stands.fits)

@@ -21,6 +21,7 @@ returns g c =
       edge_is = refl;
       opened = omega arith;
       no_call = refl;
+      follows = c.next_at.ensures;
       ahead = omega arith;
       within = omega (arith, m.1.stands.within);
     }

@@ -24,6 +24,7 @@ returns g c =
       edge_is = refl;
       opened = omega arith;
       no_call = refl;
+      follows = c.next_at.ensures;
       ahead = omega (arith, r.ahead);
       within = r.within;
     }

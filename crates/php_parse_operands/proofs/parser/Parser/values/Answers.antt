@@ -31,11 +31,11 @@ returns-in_err-value g c =
     (between c.args.self.now.reader.tokens.now c.loop-items.next c.loop-items.next (items_open (of_list is_set) v.items plain) c.in_err-value.field-0.0 (omega arith) c.args.self.now.deep refl (λ d. refl)
     (value_opens v.items) c.in_err-value.ensures))
 
-pub returns-then-ends_with : goal.returns-then-ends_with
-returns-then-ends_with g c =
+pub returns-then-closed_by : goal.returns-then-closed_by
+returns-then-closed_by g c =
     let v = c.loop-items.invariant in
     let i = c.in_ok-value.ensures in
-    let e = c.if-ends_with.ensures.yes refl in
+    let e = c.if-closed_by.ensures.yes refl _ _ i.follows in
     record {
       items = and v.items plain i.form;
       spans = record {
@@ -49,15 +49,15 @@ returns-then-ends_with g c =
       within = omega (arith, e.stands.within);
     }
 
-pub returns-then-not-ends_with : goal.returns-then-not-ends_with
-returns-then-not-ends_with g c =
+pub returns-then-not-closed_by : goal.returns-then-not-closed_by
+returns-then-not-closed_by g c =
     let v = c.loop-items.invariant in
     let i = c.in_ok-value.ensures in
     record {
       halts = leads_halts (λ s. past_items (of_list is_set) v.items s) v.reads (leads_halts (λ s. holds i.form (items_open (of_list is_set) v.items plain ∷ s)) (item_in (of_list is_set) v.items plain i.form (value_opens v.items) i.reads c.args.self.now.deep)
           (item_unclosed (of_list is_set) v.items plain i.form i.rests (record {
-            no_comma = c.if-not-ends_with.ensures.no refl;
-            no_paren = λ a. c.if-ends_with.ensures.no refl;
+            no_comma = c.if-not-closed_by.ensures.no refl _ _ i.follows;
+            no_paren = λ a. c.if-closed_by.ensures.no refl _ _ i.follows;
             no_bracket = λ a. cc;
             no_key = λ a. cc;
           })));
@@ -69,7 +69,7 @@ pub loop-items-preserved : goal.loop-items-preserved
 loop-items-preserved g c =
     let v = c.loop-items.invariant in
     let i = c.in_ok-value.ensures in
-    let e = c.if-not-ends_with.ensures.yes refl in
+    let e = c.if-not-closed_by.ensures.yes refl _ _ i.follows in
     record {
       items = and v.items plain i.form;
       shown = values_more c.args.self.now.reader.tokens.now c.args.at c.loop-items.next v.items i.form c.loop-items.items _ _ c.in_ok-push.ensures.ok v.shown v.sized i.spans.shown;
@@ -83,5 +83,11 @@ loop-items-preserved g c =
 pub loop-items-smaller : goal.loop-items-smaller
 loop-items-smaller g c =
     let i = c.in_ok-value.ensures in
-    let e = c.if-not-ends_with.ensures.yes refl in
+    let e = c.if-not-closed_by.ensures.yes refl _ _ i.follows in
     omega (arith, i.ahead, e.stands.within)
+
+pub overflow_add-result : goal.overflow_add-result
+overflow_add-result g c = let e = c.if-closed_by.ensures.yes refl _ _ c.in_ok-value.ensures.follows in omega (arith, e.stands.fits)
+
+pub overflow_add-next : goal.overflow_add-next
+overflow_add-next g c = let e = c.if-not-closed_by.ensures.yes refl _ _ c.in_ok-value.ensures.follows in omega (arith, e.stands.fits)
