@@ -1,7 +1,6 @@
 pub mod Stands
 pub mod Follow
 pub mod Agreement
-pub mod Weights
 pub mod Lists
 pub mod NameLoops
 pub mod Variables

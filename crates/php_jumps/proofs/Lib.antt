@@ -1,6 +1,5 @@
 mod LevelLemmas
 mod CountLemmas
-mod Weights
 mod Lists
 mod Views
 pub mod Bridge

@@ -1,3 +1,2 @@
-mod Weights
 mod Lists
 mod Views

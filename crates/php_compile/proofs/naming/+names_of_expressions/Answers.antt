@@ -2,7 +2,7 @@ use Rattle.std.proofs.Common.{length, ◌≤◌, arith}
 use Rattle.php_ast.proofs.Views.{view_chain}
 use Rattle.php_ast.specs.expression.Parts.{link_with, piece_with}
 use Rattle.php_ast.specs.expression.View.{view}
-use Rattle.php_compile.proofs.Weights.{weight, part_weight, piece_weight, link_weight}
+use Rattle.php_weights.proofs.Expressions.{weight, part_weight, piece_weight, link_weight}
 use Rattle.php_compile.proofs.NameLoops.{suffixes_named, pieces_kept, pieces_whole, links_kept, links_whole}
 use Rattle.php_compile.proofs.naming.+names_of_expressions.Goals as goal
 

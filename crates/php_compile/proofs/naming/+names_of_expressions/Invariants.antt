@@ -3,7 +3,7 @@ use Rattle.php_ast.specs.expression.Parts.{link_with, piece_with}
 use Rattle.php_ast.specs.expression.Tree.{no_piece}
 use Rattle.php_ast.specs.expression.View.{pieces_from, view, with_links}
 use Rattle.php_meaning.specs.Slots.{names_of, names_of_pieces}
-use Rattle.php_compile.proofs.Weights.{total, piece_weight, link_weight, weight}
+use Rattle.php_weights.proofs.Expressions.{total, piece_weight, link_weight, weight}
 use Rattle.php_compile.proofs.naming.+names_of_expressions.Given as goal
 
 abbrev pub decreases-name_expr : goal.decreases-name_expr

@@ -1,5 +1,6 @@
 use Rattle.std.proofs.Common.{length, ◌≤◌, arith}
-use Rattle.php_compile.proofs.Weights.{same, statement_weight, part_weight}
+use Rattle.php_weights.proofs.Expressions.{part_weight}
+use Rattle.php_weights.proofs.Statements.{same, statement_weight}
 use Rattle.php_compile.proofs.NameLoops.{statements_kept, statements_whole}
 use Rattle.php_compile.proofs.naming.+names_of_statements.Goals as goal
 

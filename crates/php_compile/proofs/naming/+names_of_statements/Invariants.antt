@@ -2,7 +2,8 @@ use Rattle.std.proofs.Common.{◌≡◌, ◌+◌, ◌*◌, map, take}
 use Rattle.php_ast.specs.statement.Tree.{no_statement}
 use Rattle.php_ast.specs.statement.View.{statement_view, statements_from}
 use Rattle.php_meaning.specs.Slots.{names_of_statements}
-use Rattle.php_compile.proofs.Weights.{total, same, statement_weight}
+use Rattle.php_weights.proofs.Expressions.{total}
+use Rattle.php_weights.proofs.Statements.{same, statement_weight}
 use Rattle.php_compile.proofs.naming.+names_of_statements.Given as goal
 
 abbrev pub decreases-name_statement : goal.decreases-name_statement

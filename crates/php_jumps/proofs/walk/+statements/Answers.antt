@@ -6,7 +6,8 @@ use Rattle.php_jumps.specs.Parts.{elseif_with, elseif_list_with, case_with, catc
 use Rattle.php_jumps.proofs.Lists.{at_elseif, at_elseif_list, at_case, at_catch, list_over, elseifs_over, elseif_lists_over, cases_over, catches_over, step_over, end_over}
 use Rattle.php_legality.specs.Statements.{finally_block}
 use Rattle.php_jumps.proofs.Views.{walked_try}
-use Rattle.php_jumps.proofs.Weights.{heavier, same, total, elseif_weight, elseif_list_weight, case_weight, catch_weight, statement_weight}
+use Rattle.php_weights.proofs.Expressions.{heavier, total}
+use Rattle.php_weights.proofs.Statements.{same, elseif_weight, elseif_list_weight, case_weight, catch_weight, statement_weight}
 use Rattle.php_jumps.proofs.walk.+statements.Goals as goal
 
 -- ---- parts of a list are no heavier than the list

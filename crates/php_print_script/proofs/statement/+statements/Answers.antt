@@ -9,8 +9,8 @@ use Rattle.php_ast.specs.statement.View.{optional, list_view, elseifs_from, else
 use Rattle.php_print_script.specs.statement.Elements.{elseif_with, elseif_list_with, case_with, catch_with, spell_braces, spell_elseif, spell_elseif_list, spell_case, spell_catch, spell_else, spell_else_list, spell_finally}
 use Rattle.php_print.proofs.Lists.{behind, step_all, end_all}
 use Rattle.php_print_script.proofs.Lists.{statements_spelled, elseifs_spelled, elseif_lists_spelled, cases_spelled, catches_spelled}
-use Rattle.php_print.proofs.Weights.{heavier}
-use Rattle.php_print_script.proofs.Weights.{same, elseif_weight, elseif_list_weight, case_weight, catch_weight, statement_weight}
+use Rattle.php_weights.proofs.Expressions.{heavier}
+use Rattle.php_weights.proofs.Statements.{same, elseif_weight, elseif_list_weight, case_weight, catch_weight, statement_weight}
 use Rattle.php_print_script.proofs.Views.{view_block}
 use Rattle.php_print_script.proofs.statement.+statements.Goals as goal
 

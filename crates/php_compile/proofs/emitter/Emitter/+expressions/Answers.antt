@@ -2,7 +2,7 @@ use Rattle.std.proofs.Common.{length, ◌≤◌, arith}
 use Rattle.php_ast.proofs.Views.{view_chain}
 use Rattle.php_ast.specs.expression.Parts.{link_with, piece_with}
 use Rattle.php_ast.specs.expression.View.{view}
-use Rattle.php_compile.proofs.Weights.{weight, part_weight, piece_weight, link_weight}
+use Rattle.php_weights.proofs.Expressions.{weight, part_weight, piece_weight, link_weight}
 use Rattle.php_compile.proofs.CodeLoops.{suffixes_coded, suffixes_peaked, pieces_code_kept, pieces_code_whole, pieces_peak_kept, pieces_peak_whole, pieces_count_kept, pieces_count_whole, links_code_kept, links_code_whole, links_peak_kept, links_peak_whole}
 use Rattle.php_compile.proofs.emitter.Emitter.+expressions.Goals as goal
 

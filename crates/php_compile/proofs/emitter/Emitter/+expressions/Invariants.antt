@@ -3,7 +3,7 @@ use Rattle.php_ast.specs.expression.Parts.{link_with, piece_with}
 use Rattle.php_ast.specs.expression.View.{view}
 use Rattle.php_meaning.specs.Heights.{piece_count, peak_of, peak_of_pieces}
 use Rattle.php_compile.specs.ExpressionCode.{expr_code, pieces_code}
-use Rattle.php_compile.proofs.Weights.{total, piece_weight, link_weight, weight}
+use Rattle.php_weights.proofs.Expressions.{total, piece_weight, link_weight, weight}
 use Rattle.php_compile.proofs.CodeLoops.{pieces_to, links_to}
 use Rattle.php_compile.proofs.emitter.Emitter.+expressions.Given as goal
 

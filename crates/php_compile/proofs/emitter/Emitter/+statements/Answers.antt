@@ -1,5 +1,6 @@
 use Rattle.std.proofs.Common.{length, ◌≤◌, arith}
-use Rattle.php_compile.proofs.Weights.{same, statement_weight, part_weight}
+use Rattle.php_weights.proofs.Expressions.{part_weight}
+use Rattle.php_weights.proofs.Statements.{same, statement_weight}
 use Rattle.php_compile.proofs.CodeLoops.{statements_code_kept, statements_code_whole, statements_peak_kept, statements_peak_whole}
 use Rattle.php_compile.proofs.emitter.Emitter.+statements.Goals as goal
 

@@ -1,7 +1,8 @@
 use Rattle.std.proofs.Common.{◌≡◌, ◌+◌, ◌*◌, ◌++◌, map}
 use Rattle.php_meaning.specs.Heights.{peak_of_statements}
 use Rattle.php_compile.specs.StatementCode.{statements_code}
-use Rattle.php_compile.proofs.Weights.{total, same, statement_weight}
+use Rattle.php_weights.proofs.Expressions.{total}
+use Rattle.php_weights.proofs.Statements.{same, statement_weight}
 use Rattle.php_compile.proofs.CodeLoops.{statements_to}
 use Rattle.php_compile.proofs.emitter.Emitter.+statements.Given as goal
 

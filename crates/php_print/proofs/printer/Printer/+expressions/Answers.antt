@@ -7,7 +7,7 @@ use Rattle.php_ast.specs.expression.Spelling.{spell, spell_steps, list_opening, 
 use Rattle.php_ast.specs.expression.View.{view, spot_view, steps_from}
 use Rattle.php_ast.specs.expression.Parts.{piece_with, item_with, argument_with, suffix_with, step_with, link_with}
 use Rattle.php_print.specs.expression.Elements.{spell_piece, spell_item, spell_argument, spell_suffix, spell_link, spell_step}
-use Rattle.php_print.proofs.Weights.{weight, heavier, piece_weight, item_weight, argument_weight, suffix_weight, step_weight, link_weight}
+use Rattle.php_weights.proofs.Expressions.{weight, heavier, piece_weight, item_weight, argument_weight, suffix_weight, step_weight, link_weight}
 use Rattle.php_print.proofs.Lists.{behind, closed, step_all, end_all, step_rest, end_rest, pieces_spelled, items_spelled, arguments_spelled, values_spelled, steps_spelled, suffixes_spelled, links_spelled}
 use Rattle.php_ast.proofs.Views.{view_chain, view_run}
 use Rattle.php_print.proofs.printer.Printer.+expressions.Goals as goal

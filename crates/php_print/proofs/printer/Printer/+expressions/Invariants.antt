@@ -7,7 +7,7 @@ use Rattle.php_ast.specs.expression.View.{view, spot_view, items_from, arguments
 use Rattle.php_ast.specs.expression.Parts.{piece_with, item_with, argument_with, suffix_with, step_with, class_with, link_with}
 use Rattle.php_print.specs.expression.Elements.{spell_piece, spell_item, spell_argument, spell_suffix, spell_link, spell_step}
 use Rattle.php_print.proofs.Lists.{rest, all}
-use Rattle.php_print.proofs.Weights.{total, piece_weight, item_weight, argument_weight, suffix_weight, step_weight, class_weight, link_weight, weight}
+use Rattle.php_weights.proofs.Expressions.{total, piece_weight, item_weight, argument_weight, suffix_weight, step_weight, class_weight, link_weight, weight}
 use Rattle.php_print.proofs.printer.Printer.+expressions.Given as goal
 
 abbrev pub decreases-put_expr : goal.decreases-put_expr

@@ -1,5 +1,5 @@
--- How large an expression is: what a walk over it uses up.
-use Rattle.std.proofs.Common.{◌≡◌, ◌≤◌, ◌<◌, ℕ, zero, suc, ◌+◌, List, [], ◌∷◌, map, Some, slice_get, get_or, length, sym, ap, ◌∙◌, arith}
+-- How large an expression is: what a walk over it uses up, and that parts are less.
+use Rattle.std.proofs.Common.{◌≡◌, ◌≤◌, ◌<◌, ℕ, zero, suc, ◌+◌, List, [], ◌∷◌, map, Some, slice_get, get_or, length, sym, refl, ap, ◌∙◌, arith}
 use Rattle.std.specs.Option.{option_map}
 use Rattle.std.proofs.lemmas.Option.{slice_get-map, slice_get-get_or}
 use Rattle.php_ast.specs.declared.expression.Expr.{Expr, fold-Expr}
@@ -104,3 +104,7 @@ pub heavier : {A B : Type 0} (f : B → ℕ) (v : A → B) (xs ys : List A) (k :
 heavier f v xs ys k x same within is =
     total_part f (map v xs) k (v x)
     (slice_get-map v xs k ∙ ap (λ zs. option_map v (slice_get zs k)) (sym same) ∙ ap (option_map v) (slice_get-get_or ys k x within ∙ ap Some (sym is)))
+
+-- the element at a place likewise
+pub part_weight : {A B : Type 0} (f : B → ℕ) (v : A → B) (xs : List A) (i : ℕ) (x : A) → i < length xs → x ≡ get_or xs i x → f (v x) ≤ total f (map v xs)
+part_weight f v xs i x within is = heavier f v xs xs i x refl within is
