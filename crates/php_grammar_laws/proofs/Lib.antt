@@ -7,3 +7,4 @@ mod statement
 mod declaration
 mod Lends
 mod Instances
+mod Ends
