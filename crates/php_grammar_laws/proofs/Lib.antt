@@ -8,3 +8,4 @@ mod declaration
 mod Lends
 mod Instances
 mod Ends
+mod Knowns

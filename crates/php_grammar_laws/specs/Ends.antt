@@ -3,18 +3,20 @@
 use Rattle.std.specs.Prelude.{◌≡◌, ℕ, ◌+◌, Option, Some, None, List, [], ◌∷◌, ◌++◌, take, length}
 use Rattle.php_ast.specs.Symbol.{Symbol}
 use Rattle.php_ast.specs.statement.Tree.{empty}
-use Rattle.php_ast.specs.statement.Nesting.{nests_statement}
-use Rattle.php_ast.specs.declaration.Nesting.{signature_nests, member_nests, script_nests}
+use Rattle.php_ast.specs.statement.Nesting.{nests_if, nests_statement}
+use Rattle.php_ast.specs.declaration.Nesting.{signature_nests, method_body_nests, member_nests, script_nests}
 use Rattle.php_grammar.specs.Begins.{BeginsStatement, BeginsSignature, BeginsScript}
 use Rattle.php_grammar.specs.TooDeep.{nesting_limit, first_too_deep}
 use Rattle.php_grammar.specs.statement.Forms.{due_statement}
 use Rattle.php_grammar.specs.statement.Laws.{SpellsStatement}
 use Rattle.php_grammar.specs.declaration.Laws.{SpellsSignature, SpellsScript}
 use Rattle.php_grammar.specs.declaration.SignatureMachine.{due_signature}
+use Rattle.php_grammar.specs.declaration.FunctionMachine.{FunctionForm, function_form, method_form, Routine, past_function}
 use Rattle.php_grammar.specs.declaration.MemberMachine.{past_modifiers}
 use Rattle.php_grammar.specs.declaration.ScriptMachine.{due_item}
+use Rattle.php_grammar_laws.specs.Functions.{SpellsRoutine, BeginsRoutine}
 use Rattle.php_grammar_laws.specs.Members.{SpellsMember, BeginsMember}
-use Rattle.php_grammar_laws.specs.Walks.{OutcomeOf, whole, short, deep, walk_statement, walk_signature, walk_member, walk_script}
+use Rattle.php_grammar_laws.specs.Walks.{OutcomeOf, whole, short, deep, walk_statement, walk_signature, walk_function, walk_member, walk_script}
 
 -- What trees of a kind are: `good a w` where the symbols w spell a proper tree a, `begins w` where they begin one, and the
 -- nesting of the tokens of a tree. So many constructs, `d`, are open around all of them.
@@ -71,3 +73,17 @@ MemberWalkEnds =
 
 abbrev pub ScriptWalkEnds : Type 0
 ScriptWalkEnds = (n d : ℕ) (w : List Symbol) → n + d ≡ nesting_limit → EndsAs SpellsScript BeginsScript script_nests d w (walk_script n (due_item empty) w)
+
+-- of what stands behind `function`
+abbrev pub routine_nests : {N : Type 0} → Routine N → List ℕ
+routine_nests f = nests_if f.is_reference 0 (0 ∷ signature_nests f.signature 0 (method_body_nests f.body 0 []))
+
+abbrev pub RoutineWalkEnds : {N : Type 0} → FunctionForm N → Type 0
+RoutineWalkEnds form =
+    (n d : ℕ) (w : List Symbol) → n + d ≡ nesting_limit → EndsAs (SpellsRoutine form) (BeginsRoutine form) routine_nests d w (walk_function form n past_function w)
+
+abbrev pub FunctionWalkEnds : Type 0
+FunctionWalkEnds = RoutineWalkEnds function_form
+
+abbrev pub MethodWalkEnds : Type 0
+MethodWalkEnds = RoutineWalkEnds method_form
