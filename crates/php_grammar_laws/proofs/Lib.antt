@@ -7,3 +7,5 @@ mod statement
 mod declaration
 mod Lends
 mod Instances
+mod Ends
+mod Knowns

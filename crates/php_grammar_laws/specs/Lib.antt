@@ -4,3 +4,4 @@ pub mod Functions
 pub mod Members
 pub mod Scripts
 pub mod Walks
+pub mod Ends

@@ -1,6 +1,9 @@
 // Laws of statements and declarations. Each is the contract of a function that does nothing: it says what holds of the
 // definitions in specs/, for every tree and every list of symbols.
 
+ghost use Rattle.php_grammar_laws.specs.Ends.{FunctionWalkEnds, MemberWalkEnds};
+ghost use Rattle.php_grammar_laws.specs.Ends.{MethodWalkEnds, ScriptWalkEnds};
+ghost use Rattle.php_grammar_laws.specs.Ends.{SignatureWalkEnds, StatementWalkEnds};
 ghost use Rattle.php_grammar_laws.specs.Functions.{FunctionReadingBegins, FunctionStopsExactly};
 ghost use Rattle.php_grammar_laws.specs.Functions.{MethodReadingBegins, MethodStopsExactly};
 ghost use Rattle.php_grammar_laws.specs.Functions.{OneFunction, OneMethod};
@@ -195,4 +198,34 @@ pub fn scripts_lend_functions()
 /// The walk of a member in a script is the walk of the member, and then what the script does with it.
 pub fn scripts_lend_members()
     ensures { ScriptsLendMembers }
+{}
+
+/// Where a walk of a statement ends: how far the symbols begin or spell one, and which is the first that is too deep.
+pub fn statement_walk_ends()
+    ensures { StatementWalkEnds }
+{}
+
+/// Where a walk of a signature ends: how far the symbols begin or spell one, and which is the first that is too deep.
+pub fn signature_walk_ends()
+    ensures { SignatureWalkEnds }
+{}
+
+/// Where a walk of a function ends: how far the symbols begin or spell one, and which is the first that is too deep.
+pub fn function_walk_ends()
+    ensures { FunctionWalkEnds }
+{}
+
+/// Where a walk of a method ends: how far the symbols begin or spell one, and which is the first that is too deep.
+pub fn method_walk_ends()
+    ensures { MethodWalkEnds }
+{}
+
+/// Where a walk of a member ends: how far the symbols begin or spell one, and which is the first that is too deep.
+pub fn member_walk_ends()
+    ensures { MemberWalkEnds }
+{}
+
+/// Where a walk of a script ends: how far the symbols begin or spell one, and which is the first that is too deep.
+pub fn script_walk_ends()
+    ensures { ScriptWalkEnds }
 {}

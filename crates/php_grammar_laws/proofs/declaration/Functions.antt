@@ -276,10 +276,10 @@ routine_appends called x =
 
 -- ---- laws
 
-leaves : {N : Type 0} (form : FunctionForm N) → LeavesUnread (FunctionState N) (Routine N) (halt_function form)
+pub leaves : {N : Type 0} (form : FunctionForm N) → LeavesUnread (FunctionState N) (Routine N) (halt_function form)
 leaves form m w = (function_halts form).unread m w
 
-lack_same : {N : Type 0} (form : FunctionForm N) (x : Option (Statements Nothing)) → MayLack form x → back.MayLack form x
+pub lack_same : {N : Type 0} (form : FunctionForm N) (x : Option (Statements Nothing)) → MayLack form x → back.MayLack form x
 lack_same form None h = h
 lack_same form (Some ss) h = h
 
@@ -289,7 +289,7 @@ begins form names w =
     begins_by (advance_function form) (halt_function form) (SpellsRoutine form) (ReachedFunction form) (leaves form) (function_spelled form names) (function_leads form) w past_function (λ v. v) (λ v. refl) in
     record { done = b.done; whole = b.whole; spelled = b.spelled }
 
-reads_back : {N : Type 0} (form : FunctionForm N) → Names form → ReadsRoutinesBack form
+pub reads_back : {N : Type 0} (form : FunctionForm N) → Names form → ReadsRoutinesBack form
 reads_back form names x w v h =
     ap (λ u. read_routine form (u ++ v)) (sym h.spelled) ∙ ap (read_routine form) (sym (in_front (routine_appends h.name x) v))
     ∙ functions_read_back form x.is_reference x.name h.name x.signature x.body v h.named (names.apart h.name x.name h.named) h.signature h.body (lack_same form x.body h.may_lack)
@@ -304,7 +304,7 @@ pub behind_nothing : (w : List Symbol) → w ++ [] ≡ w
 behind_nothing [] = refl
 behind_nothing (t ∷ w) = ap (λ u. t ∷ u) (behind_nothing w)
 
-stops : {N : Type 0} (form : FunctionForm N) → Names form → RoutineStopsExactly form
+pub stops : {N : Type 0} (form : FunctionForm N) → Names form → RoutineStopsExactly form
 stops form names w front t v is h b =
     let all : List Symbol = (front ++ t ∷ []) ++ b.rest in
     stops_exactly_by (advance_function form) (halt_function form) (leaves form) past_function w front t v b.rest is h

@@ -493,7 +493,7 @@ one_member a b w p q = ap (λ r. r.tree) (sym (spelled_read w [] a p) ∙ spelle
 pub unfinished : (w v : List Symbol) (m : Member Nothing) → SpellsMember m w → (read_member (w ++ v)).missing ≢ [] → ⊥
 unfinished w v m h lacks = unfinished_by (read_member (w ++ v)) m v (spelled_read w v m h) lacks
 
-all_read : (w : List Symbol) (m : Member Nothing) → SpellsMember m w → read_member w ≡ record { tree = m; missing = []; unread = [] }
+pub all_read : (w : List Symbol) (m : Member Nothing) → SpellsMember m w → read_member w ≡ record { tree = m; missing = []; unread = [] }
 all_read w m h = ap read_member (sym h.1) ∙ members_read_back m [] h.0
 
 pub stops_exactly : (w done : List Symbol) (t : Symbol) (v : List Symbol) → w ≡ done ++ t ∷ v → (read_member w).unread ≡ t ∷ v → BeginsMember (done ++ t ∷ []) → ⊥

@@ -270,7 +270,7 @@ member_step_leads items heading members t f h p same =
     (λ b. lent_leads advance_member ReachedMember (Leads ReachedScript (with_one f t)) member_leads (past_modifiers empty) (λ w. w) t (λ k. in_member items heading members k) (tt, λ w. refl)
     (λ k g. (h, p, within_first ReachedMember k (λ w. items_front items (members_front heading members w)) f t g same)) tt)
 
-script_leads : (m : ScriptState) (f : Front) (t : Symbol) → ReachedScript m f → Leads ReachedScript (with_one f t) (advance_script m t)
+pub script_leads : (m : ScriptState) (f : Front) (t : Symbol) → ReachedScript m f → Leads ReachedScript (with_one f t) (advance_script m t)
 script_leads (due_item items) f t h = item_leads items t f h.0 h.1
 script_leads (in_statement items m) f t h =
     inner_leads advance_statement halt_statement SpellsStatement Reached (Leads ReachedScript (with_one f t)) halts_spelled steps_lead m h.1.inner t
@@ -316,7 +316,7 @@ heading_stops : (items : Items) (heading : Heading) (members : Sequence (Member 
     → items_front items (heading_front heading (spell_members members [])) ≡ f u → SpellsScript (with_item items heading members) (f u)
 heading_stops items heading members f u h p is = ((h, item_proper heading members p), ap (items_front items) (item_spells heading members []) ∙ is)
 
-script_spelled : (m : ScriptState) (f : Front) (w : List Symbol) → ReachedScript m f → SpellsScript (halt_script m w).tree (f (halt_script m w).missing)
+pub script_spelled : (m : ScriptState) (f : Front) (w : List Symbol) → ReachedScript m f → SpellsScript (halt_script m w).tree (f (halt_script m w).missing)
 script_spelled (due_item items) f w h = (h.0, h.1 [])
 script_spelled (in_statement items m) f w h =
     let r : ReadingOf (Statement Nothing) = halt_statement m w in
@@ -345,7 +345,7 @@ script_spelled (in_member items heading members m) f w h =
 
 -- ---- laws
 
-leaves : LeavesUnread ScriptState Items halt_script
+pub leaves : LeavesUnread ScriptState Items halt_script
 leaves (due_item items) w = refl
 leaves _ w = refl
 
@@ -355,7 +355,7 @@ reading_begins w =
     begins_by advance_script halt_script SpellsScript ReachedScript leaves script_spelled script_leads w (due_item empty) (λ v. v) (tt, λ v. refl) in
     record { proper = b.spelled.0; done = b.done; whole = b.whole; spelled = b.spelled.1 }
 
-all_read : (w : List Symbol) (items : Items) → SpellsScript items w → read_script w ≡ record { tree = items; missing = []; unread = [] }
+pub all_read : (w : List Symbol) (items : Items) → SpellsScript items w → read_script w ≡ record { tree = items; missing = []; unread = [] }
 all_read w items h = ap read_script (sym h.1) ∙ scripts_read_back items h.0
 
 pub unfinished : (w : List Symbol) (items : Script Nothing) → SpellsScript items w → (read_script w).missing ≢ [] → ⊥

@@ -284,11 +284,11 @@ unfinished w v s h ends lacks =
     unfinished_by (read_signature (w ++ v)) s v
     (ap (λ u. read_signature (u ++ v)) (sym h.1) ∙ ap read_signature (sym (in_front (signature_appends s) v)) ∙ signatures_read_back s v h.0 ends) lacks
 
-ends_at_end : (x : Declared) → ResultEnds x []
+pub ends_at_end : (x : Declared) → ResultEnds x []
 ends_at_end None = tt
 ends_at_end (Some x) = tt
 
-all_read : (w : List Symbol) (s : Signature Nothing) → SpellsSignature s w → read_signature w ≡ record { tree = s; missing = []; unread = [] }
+pub all_read : (w : List Symbol) (s : Signature Nothing) → SpellsSignature s w → read_signature w ≡ record { tree = s; missing = []; unread = [] }
 all_read w s h = ap read_signature (sym h.1) ∙ signatures_read_back s [] h.0 (ends_at_end s.result)
 
 pub stops_exactly : (w done : List Symbol) (t : Symbol) (v : List Symbol) → w ≡ done ++ t ∷ v → (read_signature w).unread ≡ t ∷ v → BeginsSignature (done ++ t ∷ []) → ⊥

@@ -228,7 +228,7 @@ spelled_read w v a h ends =
 pub unfinished : (w v : List Symbol) (a : Statement Nothing) → SpellsStatement a w → StatementEnds a v → (read_statement (w ++ v)).missing ≢ [] → ⊥
 unfinished w v a h ends lacks = unfinished_by (read_statement (w ++ v)) a v (spelled_read w v a h ends) lacks
 
-all_read : (w : List Symbol) (a : Statement Nothing) → SpellsStatement a w → read_statement w ≡ record { tree = a; missing = []; unread = [] }
+pub all_read : (w : List Symbol) (a : Statement Nothing) → SpellsStatement a w → read_statement w ≡ record { tree = a; missing = []; unread = [] }
 all_read w a h = ap read_statement (sym h.1) ∙ statements_read_back a [] h.0 (record { no_else = λ x. refl; no_catch = λ x. refl })
 
 pub stops_exactly : (w front : List Symbol) (t : Symbol) (v : List Symbol) → w ≡ front ++ t ∷ v → (read_statement w).unread ≡ t ∷ v → BeginsStatement (front ++ t ∷ []) → ⊥
