@@ -1,2 +1,4 @@
 pub mod MoveLemmas
 pub mod MeansLemmas
+pub mod EnterLemmas
+pub mod ShedLemmas

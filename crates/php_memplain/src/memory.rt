@@ -3,11 +3,14 @@ ghost use Rattle.std.specs.Prelude.{◌≡◌, false, IfOk, OnErr};
 ghost use Rattle.php_memdef.specs.Contents.{fresh};
 ghost use Rattle.php_memdef.specs.Operations as op;
 ghost use Rattle.php_memdef.specs.Operations.{Can, run, effect, cost};
-ghost use Rattle.php_memdef.specs.Meanings.{SomeMeant, Keeps, Does, Answers, MakesAtMost};
+ghost use Rattle.php_memdef.specs.Meanings.{SomeMeant, EachMeant, Keeps, Does, Answers, Enters, MakesAtMost};
+ghost use Rattle.php_memdef.specs.Conditions.{IsBlock};
+ghost use Rattle.php_memdef.specs.Views.{temps_count};
 ghost use Rattle.php_memdef.specs.Temporaries.{content_of_scalar};
 ghost use Rattle.php_memplain_cells.specs.Seen.{content_seen};
 ghost use Rattle.php_memplain.specs.Means.{Means, made_of};
 
+use crate::blocks::{new_block, reserve_room, shed_variable};
 use crate::moves;
 use php_array::Entries;
 use php_base::{Ledger, NoMemory};
@@ -51,6 +54,63 @@ impl MemPlain {
                 ledger: Ledger { made: 0 },
             },
         }
+    }
+
+    /// Makes an empty block with room for so many temporaries, and for as many falling items.
+    pub fn enter(&mut self, temps: usize) -> Result<Block, NoMemory>
+        ensures ok { IfOk result (λ b. Enters (Means self.old) (Means self.new) b.0 temps) }
+        ensures no_memory { OnErr result (Keeps (Means self.old) (Means self.new)) }
+        ensures made { MakesAtMost false (Means self.old) (made_of self.old) (made_of self.new) (λ m. 0) }
+    {
+        let block = new_block(self.cells.alloc, temps)?;
+        match self.cells.blocks.insert(block) {
+            Ok(key) => Ok(Block(key)),
+            Err(_) => Err(NoMemory),
+        }
+    }
+
+    /// Removes an empty block.
+    pub fn leave(&mut self, block: Block)
+        requires { SomeMeant (Means self.old) (Can (op.leave block.0)) }
+        ensures effect { Does (Means self.old) (Means self.new) (effect (op.leave block.0)) }
+        ensures made { MakesAtMost false (Means self.old) (made_of self.old) (made_of self.new) (cost (op.leave block.0)) }
+    {
+        let _left = self.cells.blocks.remove(block.0);
+    }
+
+    /// Makes room for so many more temporaries and falling items in the block.
+    pub fn reserve(&mut self, block: Block, more: usize) -> Result<(), NoMemory>
+        requires { SomeMeant (Means self.old) (Can (op.reserve block.0 more)) }
+        ensures ok { IfOk result (λ _. Does (Means self.old) (Means self.new) (effect (op.reserve block.0 more))) }
+        ensures no_memory { OnErr result (Keeps (Means self.old) (Means self.new)) }
+        ensures made { MakesAtMost false (Means self.old) (made_of self.old) (made_of self.new) (cost (op.reserve block.0 more)) }
+    {
+        reserve_room(&mut self.cells.blocks[block.0], more)
+    }
+
+    /// Removes the oldest variable of the block and lets its store fall. It answers false exactly
+    /// where the block has no variable.
+    pub fn shed(&mut self, block: Block) -> bool
+        requires { SomeMeant (Means self.old) (Can (op.shed block.0)) }
+        ensures effect { Answers (Means self.old) (Means self.new) result (run (op.shed block.0)) }
+        ensures made { MakesAtMost false (Means self.old) (made_of self.old) (made_of self.new) (cost (op.shed block.0)) }
+    {
+        shed_variable(&mut self.cells.blocks[block.0])
+    }
+
+    /// The number of the block's temporaries.
+    pub fn temps(&self, block: Block) -> usize
+        requires { SomeMeant (Means self.now) (λ m. IsBlock m block.0) }
+        ensures { EachMeant (Means self.now) (λ m. result ≡ temps_count m block.0) }
+    {
+        self.cells.blocks[block.0].temps.len()
+    }
+
+    /// The count of array entries that were really made. It stops at the greatest value of its type.
+    pub fn made(&self) -> u64
+        ensures { result ≡ made_of self.now }
+    {
+        self.cells.ledger.made
     }
 
     /// Pushes an array without elements.

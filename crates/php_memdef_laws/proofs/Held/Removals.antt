@@ -25,7 +25,7 @@ use Rattle.php_memdef_laws.proofs.Held.Parts.{held_after, same_there, holders-wi
 use Rattle.php_memdef_laws.proofs.Held.Writes.{IsReal, IsThere, holders-with_content, handles-with_content, objects_kept, live_with_content, there_of, weight_of_live, found_live}
 
 module _ (x : ℕ) where
-  variable_gone : (n : ℕ) (vs : List Variable) (s : ℕ) → variable_store vs n ≡ Some s → times x (stores_of_variables (without_variable n vs)) + times x (s ∷ []) ≡ times x (stores_of_variables vs)
+  pub variable_gone : (n : ℕ) (vs : List Variable) (s : ℕ) → variable_store vs n ≡ Some s → times x (stores_of_variables (without_variable n vs)) + times x (s ∷ []) ≡ times x (stores_of_variables vs)
   variable_gone n [] s e = absurd (no e)
     where
       no : None ≡ Some s → ⊥

@@ -4,7 +4,7 @@ use Rattle.slab.specs.Slab.{Slab, get}
 use Rattle.php_memdef.specs.Numbered.{numbered}
 use Rattle.php_memdef.specs.Contents.{Mem, fresh}
 use Rattle.php_memdef.specs.Holders.{holders, object_holders}
-use Rattle.php_memdef.specs.Sound.{IsSound}
+use Rattle.php_memdef.specs.Sound.{IsClosed}
 use Rattle.php_memdef.specs.Alike.{Alike}
 use Rattle.php_memdef.specs.Rest.{IsFresh}
 use Rattle.php_memdef_laws.proofs.Alike.Memories.{Alike-sym}
@@ -48,6 +48,6 @@ returns-clause-fresh c =
     let seen = blank_seen s c.new.ensures.empty c.new-2.ensures.items c.new-3.ensures.empty c.new-4.ensures.items in
     record {
       counted = blank_counted s c.new.ensures.empty c.new-2.ensures.items c.new-3.ensures.empty c.new-4.ensures.items;
-      sound = subst IsSound (sym seen) (fresh-sound blank blank_fresh);
+      closed = subst IsClosed (sym seen) (fresh-sound blank blank_fresh).closed;
       alike = subst (λ n. Alike n fresh) (sym seen) (Alike-sym fresh blank (fresh-alike blank blank_fresh));
     }

@@ -1,0 +1,6 @@
+// Copies of contents, with their nested arrays.
+#![tactic(auto)]
+
+mod laws;
+
+pub use laws::copies_agree;
