@@ -1,5 +1,5 @@
 -- From what the parser does to what its answers say of the tokens.
-use Rattle.std.proofs.Common.{◌≡◌, ◌≤◌, ◌<◌, Bool, true, false, ℕ, suc, ◌+◌, ◌-◌, Some, None, List, [], ◌∷◌, ◌++◌, take, drop, length, refl, sym, ◌∙◌, ap, subst, arith, append_assoc}
+use Rattle.std.proofs.Common.{◌≡◌, ◌≤◌, ◌<◌, true, false, ℕ, suc, ◌+◌, ◌-◌, List, [], ◌∷◌, ◌++◌, take, drop, length, refl, sym, ◌∙◌, ap, subst, arith, append_assoc}
 use Rattle.std.proofs.lemmas.List.{append-nil, length-map, length-drop}
 use Rattle.php_token.specs.Token.{Token}
 use Rattle.php_ast.specs.Symbol.{Symbol, symbol}
@@ -10,10 +10,9 @@ use Rattle.php_ast.specs.declaration.Placed.{noted_signature, signature_form}
 use Rattle.php_ast.specs.declaration.Nesting.{signature_nests}
 use Rattle.php_ast.specs.declaration.View.{signature_view}
 use Rattle.php_grammar.specs.Begins.{BeginsSignature}
-use Rattle.php_grammar.specs.expression.Machine.{Nothing, pick}
-use Rattle.php_grammar.specs.expression.Role.{is_colon}
-use Rattle.php_grammar.specs.declaration.SignatureMachine.{Params, Declared, due_signature, signature_of, past_params, due_result}
-use Rattle.php_grammar.specs.declaration.Laws.{ResultEnds, SpellsSignature, IsSpelledSignature}
+use Rattle.php_grammar.specs.expression.Machine.{Nothing}
+use Rattle.php_grammar.specs.declaration.SignatureMachine.{due_signature}
+use Rattle.php_grammar.specs.declaration.Laws.{SpellsSignature, IsSpelledSignature}
 use Rattle.php_grammar.proofs.declaration.Notes.{signature_again}
 use Rattle.php_grammar.proofs.declaration.NotedLaws.{one_signature_tree}
 use Rattle.php_reader.specs.declared.fail.Stop.{Stop}
@@ -26,11 +25,9 @@ use Rattle.php_parse_body.proofs.Depths.{AllWithin, none_deep, first_deep}
 use Rattle.php_parse_body.proofs.Exactly.{split, symbols_length}
 use Rattle.php_parse_body.proofs.Wholes.{cancel}
 use Rattle.php_parse_signature.specs.declared.read.ReadSignature.{ReadSignature}
-use Rattle.php_parse_signature.specs.Answer.{StopsAt, Fails, signature_over, FoundSignature}
+use Rattle.php_parse_signature.specs.Answer.{StopsAt, Fails, FoundSignature}
 use Rattle.php_parse_signature.specs.Exact.{Reaches, IsRead, IsSyntax, IsTooDeep, IsRefused}
-use Rattle.php_grammar_laws.specs.Walks.{whole, walk_signature}
 use Rattle.php_parse_signature.proofs.Blanks.{blank_signature}
-use Rattle.php_parse_signature.proofs.Moves.{sticks}
 use Rattle.php_parse_signature.proofs.Tells.{whole_walk, short_walk, deep_walk}
 
 -- ---- the tokens between two places
@@ -63,29 +60,15 @@ reaches tokens at k ahead within begins most = record {
       most f.token (f.more ++ rest tokens j) f.more f.front (subst BeginsSignature (more_between tokens at k j ahead (omega arith) ∙ ap (λ z. symbols tokens at k ++ z) f.here) b);
 }
 
--- ---- a signature that is over
-
 form_is : (tokens : List Token) (at : ℕ) (s : Signature Note) (f : Signature Nothing) → s ≡ noted_signature (notes_of tokens) at f → signature_form s ≡ f
 form_is tokens at s f shown = ap signature_form shown ∙ signature_again (notes_of tokens) no_notes at 0 f ∙ blank_signature 0 f
-
-colon_sticks : (b : Bool) (n : ℕ) (params : Params) (t : Symbol) (w : List Symbol) → is_colon t ≡ b → b ≡ false → walk_signature n (past_params params) (t ∷ w) ≡ whole (signature_of params None) (t ∷ w)
-colon_sticks false n params t w is h = sticks n (past_params params) t w (ap (λ b. pick b (Some (due_result params)) None) is)
-colon_sticks true n params t w is h = cc
-
-over_by : (n : ℕ) (params : Params) (result : Declared) (w : List Symbol) → ResultEnds result w → walk_signature n (signature_over params result) w ≡ whole (signature_of params result) w
-over_by n params None [] h = refl
-over_by n params None (t ∷ w) h = colon_sticks (is_colon t) n params t w refl h
-over_by n params (Some t) [] h = refl
-over_by n params (Some t) (x ∷ w) h = refl
 
 -- ---- answers
 
 pub is_read : (depth room n : ℕ) (tokens : List Token) (at : ℕ) (r : ReadSignature) → room ≡ suc n → n + depth ≡ 128 → FoundSignature room tokens at r → IsRead depth tokens at r.signature r.next
 is_read depth room n tokens at r room_is sum found =
     let at_k : at ≤ r.next = omega (arith, found.ahead) in
-    let walked : walk_signature n due_signature (rest tokens at) ≡ whole found.form (rest tokens r.next) =
-    found.reads.same n room_is ∙ over_by n found.form.params found.form.result (rest tokens r.next) found.over in
-    let w = whole_walk n (rest tokens at) (symbols tokens at r.next) (rest tokens r.next) found.form (split tokens at r.next at_k) walked in
+    let w = whole_walk n (rest tokens at) (symbols tokens at r.next) (rest tokens r.next) found.form (split tokens at r.next at_k) (found.comes n room_is) in
     let form = form_is tokens at (signature_view r.signature) found.form found.shown in
     let spelled : IsSpelledSignature tokens at (signature_view r.signature) (between tokens at r.next) = record {
       spelled = subst (λ s. SpellsSignature s (symbols tokens at r.next)) (sym form) w.spelled;

@@ -1,5 +1,5 @@
 -- What the functions of the parser answer.
-use Rattle.std.specs.Prelude.{◌≡◌, ◌≢◌, ◌≤◌, ◌<◌, ◌^◌, ℕ, ◌+◌, Bool, true, false, Option, Some, None, Result, Ok, Err, List, [], ◌∷◌, length}
+use Rattle.std.specs.Prelude.{◌≡◌, ◌≢◌, ◌≤◌, ◌<◌, ◌^◌, ℕ, suc, ◌+◌, Bool, true, false, Option, Some, None, Result, Ok, Err, List, [], ◌∷◌, length}
 use Rattle.php_token.specs.Token.{Token, token_at}
 use Rattle.php_token.specs.declared.kind.Punct.TheVariants as mark
 use Rattle.php_ast.specs.Symbol.{Symbol, punct, variable}
@@ -25,6 +25,7 @@ use Rattle.php_grammar.specs.statement.Role.{is_assign}
 use Rattle.php_grammar.specs.statement.Machine.{named_here}
 use Rattle.php_grammar.specs.declaration.SignatureMachine.{ParamRole, at_base, at_variable, at_question, param_role, Params, Declared, SignatureState, due_signature, due_param, past_param, in_default, past_params, past_signature, param_of, with_default, signature_of}
 use Rattle.php_grammar.specs.declaration.Laws.{ResultEnds, SignatureEnds}
+use Rattle.php_grammar_laws.specs.Walks.{whole, walk_signature}
 use Rattle.php_reader.specs.declared.reader.Reader.{Reader}
 use Rattle.php_reader.specs.declared.fail.Stop.{Stop}
 use Rattle.php_reader.specs.declared.fail.Stop.TheVariants.{Syntax, TooDeep, NoMemory}
@@ -282,13 +283,15 @@ abbrev pub AnswersResult : Reader → ℕ → Result Typed Stop → Type 0
 AnswersResult reader at (Ok r) = FoundResult reader.room reader.tokens.now at r
 AnswersResult reader at (Err e) = (params : Params) → Fails reader.room (past_params params) (rest reader.tokens.now at) reader.tokens.now at e
 
--- A signature was read, up to the state behind it; the symbol that follows doesn't go on with it.
+-- A signature was read, up to the state behind it; the symbol that follows doesn't go on with it. So that is what the machine
+-- comes to.
 pub record FoundSignature (room : ℕ) (tokens : List Token) (at : ℕ) (r : ReadSignature) : Type 0 where
   pub form : Signature Nothing
   pub shown : signature_view r.signature ≡ noted_signature (notes_of tokens) at form
   pub sized : at + size_signature form ≡ r.next
   pub reads : Leads room due_signature (rest tokens at) (signature_over form.params form.result) (rest tokens r.next)
   pub over : SignatureEnds form (rest tokens r.next)
+  pub comes : (n : ℕ) → room ≡ suc n → walk_signature n due_signature (rest tokens at) ≡ whole form (rest tokens r.next)
   pub ahead : at < r.next
   pub within : r.next ≤ length tokens
 
