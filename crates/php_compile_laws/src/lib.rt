@@ -1,0 +1,4 @@
+// What holds of scripts and their code together.
+#![tactic(auto)]
+
+pub mod laws;
