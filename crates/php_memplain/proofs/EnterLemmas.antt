@@ -46,11 +46,11 @@ module _ (s : Cells) (t : Cells) (k n : ℕ) (f : Block) (free : get s.blocks k 
   unfolding enter
   entered_counted counted = record {
     stores = λ j. (
-      let nothing : times j (stores_of_scope (scope_of (memory_seen s) k)) ≡ 0 = ap (λ o. times j (stores_of_scope (unwrap_or o no_scope))) free_seen in
-      let same : count_of_store t.stores j ≡ count_of_store s.stores j = ap (λ x. count_of_store x j) st in
-      omega (arith, same, nothing, counted.stores j, holders-with_scope (memory_seen s) j k empty, same_holders (enter (memory_seen s) k n) (memory_seen t) entered_same j));
+        let nothing : times j (stores_of_scope (scope_of (memory_seen s) k)) ≡ 0 = ap (λ o. times j (stores_of_scope (unwrap_or o no_scope))) free_seen in
+        let same : count_of_store t.stores j ≡ count_of_store s.stores j = ap (λ x. count_of_store x j) st in
+        omega (arith, same, nothing, counted.stores j, holders-with_scope (memory_seen s) j k empty, same_holders (enter (memory_seen s) k n) (memory_seen t) entered_same j));
     objects = λ h. (
-      let nothing : times h (handles_of_scope (scope_of (memory_seen s) k)) ≡ 0 = ap (λ o. times h (handles_of_scope (unwrap_or o no_scope))) free_seen in
-      let same : count_of_object t.objects.items h ≡ count_of_object s.objects.items h = ap (λ x. count_of_object x h) (ap (λ x. x.items) os) in
-      omega (arith, same, nothing, counted.objects h, handles-with_scope (memory_seen s) h k empty, same_handles (enter (memory_seen s) k n) (memory_seen t) entered_same h));
+        let nothing : times h (handles_of_scope (scope_of (memory_seen s) k)) ≡ 0 = ap (λ o. times h (handles_of_scope (unwrap_or o no_scope))) free_seen in
+        let same : count_of_object t.objects.items h ≡ count_of_object s.objects.items h = ap (λ x. count_of_object x h) (ap (λ x. x.items) os) in
+        omega (arith, same, nothing, counted.objects h, handles-with_scope (memory_seen s) h k empty, same_handles (enter (memory_seen s) k n) (memory_seen t) entered_same h));
   }

@@ -114,14 +114,14 @@ left_counted s b t counted can st os seen =
     let f = scope_of m b in
     counted_by t (leave m b) [] [] seen
     (λ k. (
-      let vs : times k (stores_of_variables f.variables) ≡ 0 = ap (λ x. times k (stores_of_variables x)) can.no_variables in
-      let is : times k (stores_of_items f.temps) ≡ 0 = ap (λ x. times k (stores_of_items x)) can.no_temps in
-      let fs : times k (stores_of_items f.falling) ≡ 0 = ap (λ x. times k (stores_of_items x)) can.no_falling in
-      omega (arith, same_stores s t b st os k, counted.stores k, total-with (λ g. times k (stores_of_scope g)) m.blocks b None, weight_of_scope (λ g. times k (stores_of_scope g)) (numbered m.blocks b) refl, scope_times m k f, vs, is, fs)))
+    let vs : times k (stores_of_variables f.variables) ≡ 0 = ap (λ x. times k (stores_of_variables x)) can.no_variables in
+    let is : times k (stores_of_items f.temps) ≡ 0 = ap (λ x. times k (stores_of_items x)) can.no_temps in
+    let fs : times k (stores_of_items f.falling) ≡ 0 = ap (λ x. times k (stores_of_items x)) can.no_falling in
+    omega (arith, same_stores s t b st os k, counted.stores k, total-with (λ g. times k (stores_of_scope g)) m.blocks b None, weight_of_scope (λ g. times k (stores_of_scope g)) (numbered m.blocks b) refl, scope_times m k f, vs, is, fs)))
     (λ h. (
-      let is : times h (handles_of_items f.temps) ≡ 0 = ap (λ x. times h (handles_of_items x)) can.no_temps in
-      let fs : times h (handles_of_items f.falling) ≡ 0 = ap (λ x. times h (handles_of_items x)) can.no_falling in
-      omega (arith, same_objects s t b st os h, counted.objects h, total-with (λ g. times h (handles_of_scope g)) m.blocks b None, weight_of_scope (λ g. times h (handles_of_scope g)) (numbered m.blocks b) refl, scope_handles m h f, is, fs)))
+    let is : times h (handles_of_items f.temps) ≡ 0 = ap (λ x. times h (handles_of_items x)) can.no_temps in
+    let fs : times h (handles_of_items f.falling) ≡ 0 = ap (λ x. times h (handles_of_items x)) can.no_falling in
+    omega (arith, same_objects s t b st os h, counted.objects h, total-with (λ g. times h (handles_of_scope g)) m.blocks b None, weight_of_scope (λ g. times h (handles_of_scope g)) (numbered m.blocks b) refl, scope_handles m h f, is, fs)))
 
 -- a change of a block that names what it named before
 pub rescoped_counted : (s t : Cells) (b : ℕ) (g : Scope) → IsCounted s → t.stores ≡ s.stores → t.objects ≡ s.objects → memory_seen t ≡ with_scope (memory_seen s) b g → ((k : ℕ) → times k (stores_of_scope g) ≡ times k (stores_of_scope (scope_of (memory_seen s) b))) → ((h : ℕ) → times h (handles_of_scope g) ≡ times h (handles_of_scope (scope_of (memory_seen s) b))) → IsCounted t
