@@ -1,5 +1,5 @@
 -- A call that does what the operation does, for each memory that is meant.
-use Rattle.std.proofs.Common.{◌≡◌, ℕ, ◌+◌, List, refl, sym, ◌∙◌, ap, subst, arith}
+use Rattle.std.proofs.Common.{◌≡◌, ℕ, ◌+◌, List, [], refl, sym, ◌∙◌, ap, subst, arith}
 use Rattle.std.specs.Prelude.{Option, Some, None, is_some}
 use Rattle.php_memdef.specs.Numbered.{Numbered, numbered}
 use Rattle.php_memdef.specs.Contents.{Content, Object, Scope, Mem}
@@ -13,7 +13,9 @@ use Rattle.php_memdef_laws.proofs.Alike.Memories.{map_if-kept, Alike-refl, Alike
 use Rattle.php_memdef_laws.proofs.Alike.Totals.{holders-renamed, object_holders-renamed}
 use Rattle.php_memdef_laws.proofs.Alike.Operations.{run-alike, Can-alike}
 use Rattle.php_memdef_laws.proofs.Closed.Operations.{effect-closed}
+use Rattle.php_memplain_cells.specs.Counts.{count_of_store, count_of_object}
 use Rattle.php_memplain_cells.specs.Memory.{memory_seen, IsCounted}
+use Rattle.php_memplain_cells.proofs.MemoryLemmas.{counted_by}
 use Rattle.php_memplain.specs.declared.memory.MemPlain.{MemPlain}
 use Rattle.php_memplain.specs.Means.{Means}
 
@@ -89,3 +91,14 @@ module _ (s t : MemPlain) (o : Operation) (counted : IsCounted t.cells) where
     does (sym (ap (λ p. p.0) is)) m means,
     sym ((run-alike o (memory_seen s.cells) m means.closed means.alike).1 ∙ ap (λ p. p.1) is),
   )
+
+-- a memory that shows what it showed is taken for what it was taken for
+pub kept : (s t : MemPlain) → memory_seen t.cells ≡ memory_seen s.cells → t.cells.stores ≡ s.cells.stores → t.cells.objects ≡ s.cells.objects → Keeps (Means s) (Means t)
+kept s t seen st os m means = record {
+  counted =
+      counted_by t.cells (memory_seen s.cells) [] [] seen
+      (λ k. ap (λ x. count_of_store x k) st ∙ means.counted.stores k)
+      (λ h. ap (λ x. count_of_object x h) (ap (λ x. x.items) os) ∙ means.counted.objects h);
+  closed = subst IsClosed (sym seen) means.closed;
+  alike = subst (λ n. Alike n m) (sym seen) means.alike;
+}

@@ -63,10 +63,10 @@ impl MemPlain {
         ensures made { MakesAtMost false (Means self.old) (made_of self.old) (made_of self.new) (λ m. 0) }
     {
         let block = new_block(self.cells.alloc, temps)?;
-        match self.cells.blocks.insert(block) {
-            Ok(key) => Ok(Block(key)),
-            Err(_) => Err(NoMemory),
-        }
+        let Ok(key) = self.cells.blocks.insert(block) else {
+            return Err(NoMemory);
+        };
+        Ok(Block(key))
     }
 
     /// Removes an empty block.
@@ -85,7 +85,10 @@ impl MemPlain {
         ensures no_memory { OnErr result (Keeps (Means self.old) (Means self.new)) }
         ensures made { MakesAtMost false (Means self.old) (made_of self.old) (made_of self.new) (cost (op.reserve block.0 more)) }
     {
-        reserve_room(&mut self.cells.blocks[block.0], more)
+        let Ok(()) = reserve_room(&mut self.cells.blocks[block.0], more) else {
+            return Err(NoMemory);
+        };
+        Ok(())
     }
 
     /// Removes the oldest variable of the block and lets its store fall. It answers false exactly

@@ -2,5 +2,7 @@
 #![tactic(auto)]
 
 mod laws;
+mod stores;
 
 pub use laws::copies_agree;
+pub use stores::{copy_unless_array, put_store, raise};

@@ -1,4 +1,5 @@
-use Rattle.std.proofs.Common.{◌≡◌, sym, ◌∙◌}
+use Rattle.std.proofs.Common.{◌≡◌, length, sym, ◌∙◌, arith}
+use Rattle.std.specs.Prelude.{vec_len}
 use Rattle.php_memdef_laws.proofs.Alike.Memories.{Alike-sym}
 use Rattle.php_memdef_laws.proofs.Alike.Views.{temps_count-alike, IsBlock-alike}
 use Rattle.php_memplain_cells.specs.Memory.{memory_seen}
@@ -16,4 +17,5 @@ pub returns : goal.returns
 returns c = λ m means.
     let n = memory_seen c.args.self.now.cells in
     let a = means.alike in
-    c.len.ensures ∙ sym (temps_count-alike a.to a.back n m a.renamed c.args.block.0 ∙ temps_length c.args.self.now.cells c.args.block.0 c.index.result.now c.index.ensures)
+    let count : vec_len c.index.result.now.temps ≡ length c.index.result.now.temps.items = (let ok = c.index.result.now.temps.ok in omega arith) in
+    c.len.ensures ∙ count ∙ sym (temps_count-alike a.to a.back n m a.renamed c.args.block.0 ∙ temps_length c.args.self.now.cells c.args.block.0 c.index.result.now c.index.ensures)
