@@ -42,11 +42,7 @@ fn value(reader: &Reader, at: usize) -> Result<Valued, Stop>
             next: at,
         });
     }
-    let Read {
-        expr,
-        edge: _,
-        next,
-    } = default(reader, at + 1)?;
+    let Read { expr, next, .. } = default(reader, at + 1)?;
     Ok(Valued {
         default: Some(expr),
         next,
