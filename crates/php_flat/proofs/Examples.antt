@@ -1,17 +1,13 @@
 -- Small statements and declarations, flat and not.
-use Rattle.std.proofs.Common.{◌≡◌, true, false, ◌&&◌, Option, Some, None, List, [], ◌∷◌, refl, sym, ◌∙◌, ap}
+use Rattle.std.proofs.Common.{◌≡◌, true, false, ◌&&◌, Some, [], ◌∷◌, ◌∙◌, ap}
 use Rattle.std.specs.List.{list_all}
 use Rattle.php_ast.specs.declared.spot.Spot.{Spot}
-use Rattle.php_ast.specs.declared.spot.Name.{Name}
 use Rattle.php_ast.specs.declared.expression.Expr.{Expr}
-use Rattle.php_ast.specs.declared.statement.Stmt.{Stmt}
-use Rattle.php_ast.specs.declared.statement.Stmt.TheVariants.{Block, Expression, Echo, If, While}
+use Rattle.php_ast.specs.declared.statement.Stmt.TheVariants.{Block, Expression, If, While}
 use Rattle.php_ast.specs.declared.statement.Body.TheVariants as body_form
-use Rattle.php_ast.specs.declared.declaration.Signature.{Signature}
 use Rattle.php_ast.specs.declared.declaration.FunctionDecl.{FunctionDecl}
-use Rattle.php_ast.specs.declared.script.Script.{Script}
 use Rattle.php_ast.specs.declared.script.ScriptItem.TheVariants as item
-use Rattle.php_build.specs.Flat.{is_flat, are_flat}
+use Rattle.php_build.specs.Flat.{is_flat}
 use Rattle.php_flat.specs.Statements.{is_flat_statement, are_flat_statements}
 use Rattle.php_flat.specs.Declarations.{is_flat_param, is_flat_script}
 use Rattle.php_flat.proofs.Nodes.{flat_block, flat_expression, flat_if, flat_while}

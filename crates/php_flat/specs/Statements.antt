@@ -1,6 +1,6 @@
 -- Which statements of the program are flat: all expressions in them are. What a statement may have any number of, its types
 -- keep side by side in lists: statements, values, names, `elseif` parts, cases and `catch` parts.
-use Rattle.std.specs.Prelude.{Bool, true, false, ◌&&◌, Option, Some, None, List, map}
+use Rattle.std.specs.Prelude.{Bool, true, ◌&&◌, Option, Some, None, List, map}
 use Rattle.std.specs.List.{list_all}
 use Rattle.php_ast.specs.declared.expression.Expr.{Expr}
 use Rattle.php_ast.specs.declared.statement.Stmt.{Stmt, fold-Stmt}

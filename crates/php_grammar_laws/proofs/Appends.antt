@@ -1,5 +1,5 @@
 -- What puts symbols in front of others does so whatever those are.
-use Rattle.std.proofs.Common.{◌≡◌, List, [], ◌∷◌, ◌++◌, Option, Some, None, Bool, true, false, refl, sym, ◌∙◌, ap}
+use Rattle.std.proofs.Common.{◌≡◌, List, [], ◌∷◌, ◌++◌, Option, Some, None, Bool, true, false, refl, ◌∙◌, ap}
 use Rattle.php_token.specs.declared.kind.Keyword.{Keyword}
 use Rattle.php_token.specs.declared.kind.Keyword.TheVariants as word
 use Rattle.php_token.specs.declared.kind.Punct.TheVariants as mark
@@ -12,7 +12,7 @@ use Rattle.php_ast.specs.expression.Spelling.{spell, spell_items, spell_lead, co
 use Rattle.php_ast.specs.statement.Tree.{Sequence, empty, then_also, Name, Variable, Constant, Target}
 use Rattle.php_ast.specs.statement.Tree.{Statement, block, blank, inline, expression, echo, globals, statics, unset, constants, jump, throw, if_only, if_else, if_lists, if_else_lists, while, do_while, for, foreach, switch, try_catch, try_finally, declares}
 use Rattle.php_ast.specs.statement.Tree.{Statements, no_statement, and_statement, ElseIfs, no_elseif, and_elseif, ElseIfLists, no_elseif_list, and_elseif_list, Body, single, list_behind_colon, Cases, no_case, and_case, Catches, no_catch, and_catch}
-use Rattle.php_ast.specs.statement.Spelling.{separator, separated, commas, spell_name, spell_dollar, spell_value, spell_variable, spell_constant, spell_optional, symbol_if, jump_word, spell_target, spell_key, spell_head, spell_label, case_end_symbol, cases_opening, cases_closing, spell_statement, spell_statements, spell_elseifs, spell_elseif_lists, spell_body, spell_cases, spell_catches}
+use Rattle.php_ast.specs.statement.Spelling.{separator, separated, spell_name, spell_dollar, spell_value, spell_variable, spell_constant, spell_optional, symbol_if, jump_word, spell_target, spell_key, spell_head, spell_label, case_end_symbol, cases_opening, cases_closing, spell_statement, spell_statements, spell_elseifs, spell_elseif_lists, spell_body, spell_cases, spell_catches}
 use Rattle.php_grammar.proofs.expression.Appended.{spell_append}
 
 pub record Appends (f : List Symbol → List Symbol) : Type 0 where

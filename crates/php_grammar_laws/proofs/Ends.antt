@@ -1,13 +1,13 @@
 -- From the walk of a machine to what it says of the symbols.
-use Rattle.std.proofs.Common.{◌≡◌, ◌≢◌, ◌≤◌, ◌<◌, ◌⊎◌, inl, inr, ℕ, suc, ◌+◌, Bool, true, false, Option, Some, None, List, [], ◌∷◌, ◌++◌, take, length, refl, sym, ◌∙◌, ap, subst, arith, append_assoc, length-append, ltb-true, ltb-false, lt-ltb, le-ltb}
+use Rattle.std.proofs.Common.{◌≡◌, ◌≤◌, ◌<◌, ◌⊎◌, inl, inr, ℕ, suc, ◌+◌, Bool, true, false, Option, Some, None, List, [], ◌∷◌, ◌++◌, take, length, refl, sym, ◌∙◌, ap, subst, arith, append_assoc, length-append, ltb-true, ltb-false, lt-ltb, le-ltb}
 use Rattle.std.proofs.Math.Seq.{take-append_seam}
 use Rattle.std.specs.Prelude.{nat_lt}
 use Rattle.php_ast.specs.Symbol.{Symbol}
 use Rattle.php_grammar.specs.Run.{ReadingOf, or_halted, run_of}
 use Rattle.php_grammar.specs.TooDeep.{taken, depths_taken, nesting_limit, one_further, first_above, deeper, first_too_deep}
 use Rattle.php_grammar.specs.expression.Machine.{pick}
-use Rattle.php_grammar_laws.specs.Walks.{OutcomeOf, whole, short, deep, outcome_by, outcome, stepped, walk_of}
-use Rattle.php_grammar_laws.specs.Ends.{NoFurther, EndsWhole, EndsShort, EndsDeep, EndsAs}
+use Rattle.php_grammar_laws.specs.Walks.{OutcomeOf, deep, outcome_by, outcome, stepped, walk_of}
+use Rattle.php_grammar_laws.specs.Ends.{NoFurther, EndsAs}
 use Rattle.php_grammar_laws.proofs.Stops.{LeavesUnread}
 use Rattle.php_grammar_laws.proofs.Begins.{Begins}
 

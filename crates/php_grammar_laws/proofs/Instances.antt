@@ -1,20 +1,20 @@
 -- Which machines lend their symbols.
-use Rattle.std.proofs.Common.{◌≡◌, ℕ, ◌+◌, Bool, true, false, Option, Some, None, List, [], ◌∷◌, ◌++◌, refl, sym, ◌∙◌, ap, subst, arith}
+use Rattle.std.proofs.Common.{◌≡◌, Bool, true, false, Option, Some, None, List, [], ◌∷◌, ◌++◌, refl, sym, ◌∙◌, ap, subst, arith}
 use Rattle.php_token.specs.declared.kind.Punct.TheVariants as mark
 use Rattle.std.specs.Prelude.{nat_lt}
 use Rattle.php_ast.specs.Symbol.{Symbol, punct}
-use Rattle.php_ast.specs.statement.Tree.{Sequence, then_also, Name, Variable, Statement, Statements, and_statement}
-use Rattle.php_ast.specs.declaration.Tree.{Param, Signature, ClassConstant, Member, of_statement}
+use Rattle.php_ast.specs.statement.Tree.{then_also, and_statement}
+use Rattle.php_ast.specs.declaration.Tree.{Member, of_statement}
 use Rattle.php_grammar.specs.Run.{either, if_some, ReadingOf, if_nothing, if_whole, through_expression}
 use Rattle.php_grammar.specs.expression.Machine.{Nothing, Form, State, advance, halt}
 use Rattle.php_grammar.specs.expression.Depth.{depth_at}
 use Rattle.php_grammar.specs.statement.Role.{ending}
-use Rattle.php_grammar.specs.statement.Forms.{Head, if_head, elseif_head, elseif_list_head, while_head, do_head, switch_head, Values, of_echo, of_unset, of_starts, of_tests, of_steps, Around, ExpressionPlace, as_line, as_value, as_static, as_constant, as_jump, as_thrown, as_test, as_walked, as_first, as_second, as_label, StatementState, in_expression}
+use Rattle.php_grammar.specs.statement.Forms.{Head, if_head, elseif_head, elseif_list_head, while_head, do_head, switch_head, Values, of_echo, of_unset, of_starts, of_tests, of_steps, ExpressionPlace, as_line, as_value, as_static, as_constant, as_jump, as_thrown, as_test, as_walked, as_first, as_second, as_label, in_expression}
 use Rattle.php_grammar.specs.statement.Machine.{filled, advance_statement}
 use Rattle.php_grammar.specs.statement.Depth.{statement_depth, place_depth, statement_depth_at}
 use Rattle.php_grammar.specs.statement.Reading.{values_rest, head_rest, place_rest, missing_around, halt_statement, end_symbol}
 use Rattle.php_grammar.specs.declaration.Depth.{signature_depth_at, function_depth_at, member_depth_at, script_depth_at}
-use Rattle.php_grammar.specs.declaration.SignatureMachine.{Params, SignatureState, in_default, with_default, param_end, advance_signature, halt_signature, closing}
+use Rattle.php_grammar.specs.declaration.SignatureMachine.{in_default, with_default, param_end, advance_signature, halt_signature, closing}
 use Rattle.php_grammar.specs.declaration.FunctionMachine.{FunctionForm, function_form, method_form, Routine, FunctionState, in_signature, in_statement, body_step, block_step, advance_function, least_body_rest, halt_function}
 use Rattle.php_grammar.specs.declaration.MemberMachine.{Word, Modifiers, MemberState, in_constant, in_property, in_method, with_constant, with_property, constant_end, property_end, method_of, advance_member, halt_member}
 use Rattle.php_grammar.specs.declaration.ScriptMachine as script
@@ -24,8 +24,8 @@ use Rattle.php_grammar.proofs.statement.LawProofs.{statement_stops}
 use Rattle.php_grammar.proofs.declaration.SignatureBack.{signature_halts}
 use Rattle.php_grammar.proofs.declaration.FunctionBack.{function_halts}
 use Rattle.php_grammar.proofs.declaration.MemberBack.{member_halts}
-use Rattle.php_grammar_laws.specs.Walks.{OutcomeOf, whole, short, outcome, stepped, resumed, halt_expression, StatementsLend, SignaturesLend, FunctionsLendSignatures, FunctionsLendStatements, MembersLendFunctions, MembersLendConstants, MembersLendProperties, ScriptsLendStatements, ScriptsLendFunctions, ScriptsLendMembers, walk_member, walk_function, walk_of, past}
-use Rattle.php_grammar_laws.proofs.Lends.{Lends, lends, lends_at, IsSome, some_behind, stops_short, stops_whole, whole_alike}
+use Rattle.php_grammar_laws.specs.Walks.{OutcomeOf, whole, short, outcome, stepped, resumed, halt_expression, StatementsLend, SignaturesLend, FunctionsLendSignatures, FunctionsLendStatements, MembersLendFunctions, MembersLendConstants, MembersLendProperties, ScriptsLendStatements, ScriptsLendFunctions, ScriptsLendMembers, walk_member, walk_function}
+use Rattle.php_grammar_laws.proofs.Lends.{lends, lends_at, IsSome, some_behind, stops_short, stops_whole, whole_alike}
 
 -- ---- expressions
 

@@ -1,15 +1,13 @@
 -- The machines whose walks say so much.
-use Rattle.std.proofs.Common.{◌≡◌, ℕ, Option, Some, None, List, [], ◌∷◌, ◌++◌, refl, sym, ◌∙◌, ap}
+use Rattle.std.proofs.Common.{◌≡◌, List, [], ◌∷◌, ◌++◌, refl, sym, ◌∙◌, ap}
 use Rattle.php_token.specs.declared.kind.Punct.TheVariants as mark
 use Rattle.php_ast.specs.Symbol.{Symbol, punct}
-use Rattle.php_ast.specs.statement.Tree.{empty, Statement}
+use Rattle.php_ast.specs.statement.Tree.{empty}
 use Rattle.php_ast.specs.statement.Nesting.{nests_statement}
-use Rattle.php_ast.specs.declaration.Tree.{Signature, Member, Script}
 use Rattle.php_ast.specs.declaration.Nesting.{signature_nests, member_nests, script_nests}
 use Rattle.php_grammar.specs.Begins.{BeginsStatement, BeginsSignature, BeginsScript}
 use Rattle.php_grammar.specs.TooDeep.{depths_taken}
-use Rattle.php_grammar.specs.expression.Machine.{Nothing}
-use Rattle.php_grammar.specs.statement.Forms.{StatementState, due_statement}
+use Rattle.php_grammar.specs.statement.Forms.{due_statement}
 use Rattle.php_grammar.specs.statement.Laws.{SpellsStatement}
 use Rattle.php_grammar.specs.statement.Machine.{advance_statement}
 use Rattle.php_grammar.specs.statement.Depth.{statement_depth_at}
@@ -17,7 +15,7 @@ use Rattle.php_grammar.specs.statement.Reading.{halt_statement}
 use Rattle.php_grammar.specs.declaration.Depth.{signature_depth_at, function_depth_at, member_depth_at, script_depth_at}
 use Rattle.php_grammar.specs.declaration.Laws.{SpellsSignature, SpellsScript}
 use Rattle.php_grammar.specs.declaration.SignatureMachine.{due_signature, advance_signature, halt_signature}
-use Rattle.php_grammar.specs.declaration.FunctionMachine.{FunctionForm, function_form, method_form, Routine, past_function, advance_function, halt_function}
+use Rattle.php_grammar.specs.declaration.FunctionMachine.{FunctionForm, function_form, method_form, past_function, advance_function, halt_function}
 use Rattle.php_grammar.specs.declaration.MemberMachine.{past_modifiers, advance_member, halt_member}
 use Rattle.php_grammar.specs.declaration.ScriptMachine.{ScriptState, due_item, in_statement, in_function, in_member, advance_script, halt_script}
 use Rattle.php_grammar.proofs.statement.LawProofs.{statement_stops}

@@ -1,13 +1,11 @@
 -- A machine that lends its symbols to another one.
-use Rattle.std.proofs.Common.{◌≡◌, ◌≤◌, ◌<◌, ℕ, ◌+◌, Bool, true, false, Option, Some, None, List, [], ◌∷◌, ◌++◌, refl, sym, ◌∙◌, ap, subst, arith, ltb-true, ltb-false, lt-ltb, le-ltb}
+use Rattle.std.proofs.Common.{◌≡◌, ℕ, ◌+◌, Bool, true, false, Option, Some, None, List, [], ◌∷◌, ◌++◌, refl, sym, ◌∙◌, ap, subst, arith, ltb-true, ltb-false, lt-ltb, le-ltb}
 use Rattle.std.specs.Prelude.{nat_lt}
 use Rattle.php_ast.specs.Symbol.{Symbol}
-use Rattle.php_grammar.specs.Run.{either, if_some, ReadingOf, reading, if_nothing, if_whole, inside, whole_before, around_expression}
+use Rattle.php_grammar.specs.Run.{either, if_some, ReadingOf, reading, if_nothing, if_whole, whole_before}
 use Rattle.php_grammar.specs.TooDeep.{depth_inside}
-use Rattle.php_grammar.specs.expression.Machine.{Form, instance_of_open, OpenForms, State, past_static, past_yield, expects, missing_end, advance, is_last, halt_static, halt_yield, halt}
-use Rattle.php_grammar.specs.expression.Depth.{depth_at}
-use Rattle.php_grammar.proofs.expression.LawProofs.{halt_unread}
-use Rattle.php_grammar_laws.specs.Walks.{OutcomeOf, whole, short, deep, outcome_by, outcome, stepped, walk_of, halt_expression, walk_expression, taken_on, past, resumed}
+use Rattle.php_grammar.specs.expression.Machine.{instance_of_open, OpenForms, State, past_static, past_yield, expects, missing_end, is_last, halt_static, halt_yield}
+use Rattle.php_grammar_laws.specs.Walks.{OutcomeOf, whole, short, outcome_by, outcome, stepped, walk_of, halt_expression, taken_on, past, resumed}
 use Rattle.php_grammar_laws.proofs.Stops.{LeavesUnread}
 
 -- ---- the law

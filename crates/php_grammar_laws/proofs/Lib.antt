@@ -9,3 +9,4 @@ mod Lends
 mod Instances
 mod Ends
 mod Knowns
+mod WalkExamples

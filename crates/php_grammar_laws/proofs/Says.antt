@@ -6,7 +6,6 @@ use Rattle.php_token.specs.declared.kind.Punct.{Punct}
 use Rattle.php_token.specs.declared.kind.Punct.TheVariants as mark
 use Rattle.php_ast.specs.Symbol as symbol
 use Rattle.php_ast.specs.Symbol.{Symbol, keyword, punct}
-use Rattle.php_ast.specs.statement.Tree.{Jump}
 use Rattle.php_ast.specs.statement.Spelling.{jump_word}
 use Rattle.php_grammar.specs.expression.Role.{Continuation, draws, closes, neither, continuation}
 use Rattle.php_grammar.specs.statement.Role.{StatementBeginning, at_block, at_blank, at_inline, at_echo, at_globals, at_statics, at_unset, at_constants, at_jump, at_throw, at_if, at_while, at_do, at_for, at_foreach, at_switch, at_try, at_declare, at_expression, statement_keyword, statement_punct, statement_beginning, Behind, by_else, by_elseif, by_while, by_case, by_default, by_brace, by_endif, by_endwhile, by_endfor, by_endforeach, by_endswitch, by_catch, by_finally, by_other, behind_keyword, behind_punct, behind, Ending, closer, as_word, no_ending, ending_of, ending, Fixed, left_paren, right_paren, left_brace, fixed_colon, fixed_semicolon, fixed_assign, fixed_symbol, is_fixed, is_semicolon, is_assign, is_right_brace, is_bar, name_text, variable_text}

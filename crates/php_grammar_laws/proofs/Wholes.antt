@@ -1,6 +1,5 @@
 -- An expression inside another machine: where it halts, and where a symbol ends it.
-use Rattle.std.proofs.Common.{◌≡◌, ◌≤◌, ◌<◌, ◌⊎◌, inl, inr, ℕ, suc, Bool, true, false, Option, Some, None, List, [], ◌∷◌, ◌++◌, refl, sym, ◌∙◌, ap, subst, arith}
-use Rattle.std.specs.Prelude.{nat_lt}
+use Rattle.std.proofs.Common.{◌≡◌, ◌<◌, Bool, true, false, Option, Some, None, List, [], ◌∷◌, ◌++◌, refl, sym, ◌∙◌, ap, arith}
 use Rattle.php_ast.specs.declared.operator.Binary.{Binary}
 use Rattle.php_ast.specs.declared.operator.Binary.TheVariants as binary_op
 use Rattle.php_ast.specs.declared.operator.Assign.TheVariants as setting
@@ -11,8 +10,8 @@ use Rattle.php_ast.specs.Power.{binary_row}
 use Rattle.php_ast.specs.expression.Proper.{Proper, ends_bare, takes_arrow, right}
 use Rattle.php_grammar.specs.expression.Role.{paren, bracket, brace, comma as closing_comma, double_arrow, colon, semicolon, part_end, Continuation, draws, closes, neither, continuation, is_arrow, ends_yield, is_paren}
 use Rattle.php_grammar.specs.expression.Machine.{Nothing, Form, of_list, OpenForm, enclosed_open, items_open, index_open, computed_open, step_open, part_open, then_open, else_open, short_open, prefix_open, binary_open, instance_of_open, assign_open, yield_open, yield_value_open, OpenForms, State, expects, holds, holds_call, due_enclosed, due_listed, past_items, past_value, past_exit, past_exit_paren, past_static, past_static_colons, past_template, past_index, past_arrow, past_new, past_class, past_step, past_question, past_assign, past_yield, any, any_member, ends_at, completed, completed_all, missing_end, is_call_at, seated, pick, goes_on, class_step, static_step, advance, Reading, is_last, halt_yield, halt_static, halt, read_from}
-use Rattle.php_grammar.specs.Run.{either, if_some, if_nothing, whole_in, whole_before, through_expression, ReadingOf, around_expression}
-use Rattle.php_grammar.proofs.expression.Sound.{IsSound, IsFitting, IsSoundState, symbols_so_far}
+use Rattle.php_grammar.specs.Run.{either, if_some, if_nothing, whole_before, through_expression}
+use Rattle.php_grammar.proofs.expression.Sound.{IsSoundState, symbols_so_far}
 use Rattle.php_grammar.proofs.expression.Fill.{completed_bare, completed_all_spells, completed_all_bare, seats_by}
 use Rattle.php_grammar.proofs.expression.SoundSteps.{LeadsOn}
 use Rattle.php_grammar.proofs.expression.Soundness.{every_step_leads, BeginsFrom, reading_begins_from}

@@ -1,6 +1,6 @@
 -- What the end of a walk says of the symbols, exactly: of those in front of it, of the first one behind, and of how deep
 -- they are nested in any tree.
-use Rattle.std.specs.Prelude.{◌≡◌, ℕ, ◌+◌, Option, Some, None, List, [], ◌∷◌, ◌++◌, take, length}
+use Rattle.std.specs.Prelude.{◌≡◌, ℕ, ◌+◌, Some, None, List, [], ◌∷◌, ◌++◌, take, length}
 use Rattle.php_ast.specs.Symbol.{Symbol}
 use Rattle.php_ast.specs.statement.Tree.{empty}
 use Rattle.php_ast.specs.statement.Nesting.{nests_if, nests_statement}

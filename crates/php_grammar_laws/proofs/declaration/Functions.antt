@@ -1,16 +1,15 @@
 -- The laws of the machine of functions and methods.
-use Rattle.std.proofs.Common.{◌≡◌, ◌≢◌, Bool, true, false, Option, Some, None, List, [], ◌∷◌, ◌++◌, refl, sym, ◌∙◌, ap, subst}
+use Rattle.std.proofs.Common.{◌≡◌, Bool, true, false, Option, Some, None, List, [], ◌∷◌, ◌++◌, refl, sym, ◌∙◌, ap}
 use Rattle.php_token.specs.declared.kind.Punct.TheVariants as mark
-use Rattle.php_ast.specs.Symbol as symbol
-use Rattle.php_ast.specs.Symbol.{Symbol, keyword, punct}
+use Rattle.php_ast.specs.Symbol.{Symbol, punct}
 use Rattle.php_ast.specs.expression.Tree as tree
-use Rattle.php_ast.specs.statement.Tree.{Name, Statement, Statements, no_statement, and_statement}
+use Rattle.php_ast.specs.statement.Tree.{Name, Statements, no_statement, and_statement}
 use Rattle.php_ast.specs.statement.Spelling.{symbol_if, spell_statement, spell_statements}
-use Rattle.php_ast.specs.statement.Proper.{IsProper, AreProper}
+use Rattle.php_ast.specs.statement.Proper.{AreProper}
 use Rattle.php_ast.specs.declaration.Tree.{Signature}
 use Rattle.php_ast.specs.declaration.Spelling.{spell_signature, spell_method_body}
 use Rattle.php_ast.specs.declaration.Proper.{IsProperSignature, IsProperMethodBody}
-use Rattle.php_grammar.specs.Run.{if_some, ReadingOf, reading}
+use Rattle.php_grammar.specs.Run.{if_some}
 use Rattle.php_grammar.specs.expression.Role.{is_ampersand, is_left_brace}
 use Rattle.php_grammar.specs.expression.Machine.{Nothing, pick}
 use Rattle.php_grammar.specs.statement.Role.{is_semicolon, is_right_brace}
@@ -24,7 +23,7 @@ use Rattle.php_grammar.specs.declaration.FunctionMachine.{FunctionForm, function
 use Rattle.php_grammar.proofs.expression.Roles.{ampersand_says, left_brace_says}
 use Rattle.php_grammar.proofs.declaration.FunctionBack as back
 use Rattle.php_grammar.proofs.declaration.FunctionBack.{function_halts, functions_read_back}
-use Rattle.php_grammar_laws.specs.Functions.{MayLack, spell_routine, SpellsRoutine, BeginsRoutine, read_routine, BeginsAsRoutine, RoutineReadingBegins, ReadsRoutinesBack, OneRoutine, UnfinishedRoutine, RoutineStopsExactly, FunctionReadingBegins, ReadsFunctionsBack, OneFunction, UnfinishedFunction, FunctionStopsExactly, MethodReadingBegins, ReadsMethodsBack, OneMethod, UnfinishedMethod, MethodStopsExactly}
+use Rattle.php_grammar_laws.specs.Functions.{MayLack, spell_routine, SpellsRoutine, read_routine, RoutineReadingBegins, ReadsRoutinesBack, OneRoutine, UnfinishedRoutine, RoutineStopsExactly, FunctionReadingBegins, ReadsFunctionsBack, OneFunction, UnfinishedFunction, FunctionStopsExactly, MethodReadingBegins, ReadsMethodsBack, OneMethod, UnfinishedMethod, MethodStopsExactly}
 use Rattle.php_grammar_laws.proofs.Stops.{LeavesUnread, stops_exactly_by, unfinished_by}
 use Rattle.php_grammar_laws.proofs.Appends.{Appends, nothing, both, before, behind, in_front, if_appends, statements_appends, statement_appends}
 use Rattle.php_grammar_laws.proofs.Begins.{Front, Same, with_one, next, Leads, pick_leads, Begins, begins_by, front_ends, one_appends, lent_leads, inner_leads}

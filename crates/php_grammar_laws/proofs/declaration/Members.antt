@@ -1,32 +1,30 @@
 -- The laws of the machine of members.
-use Rattle.std.proofs.Common.{◌≡◌, ◌≢◌, ℕ, Bool, true, false, Option, Some, None, List, [], ◌∷◌, ◌++◌, refl, sym, ◌∙◌, ap, subst}
+use Rattle.std.proofs.Common.{◌≡◌, ◌≢◌, ℕ, false, Option, Some, None, List, [], ◌∷◌, ◌++◌, refl, sym, ◌∙◌, ap, subst}
 use Rattle.php_token.specs.declared.kind.Keyword.{Keyword}
 use Rattle.php_token.specs.declared.kind.Keyword.TheVariants as word
 use Rattle.php_token.specs.declared.kind.Punct.{Punct}
 use Rattle.php_token.specs.declared.kind.Punct.TheVariants as mark
 use Rattle.php_ast.specs.declared.declaration.Visibility.{Visibility}
-use Rattle.php_ast.specs.declared.declaration.Visibility.TheVariants as visibility
-use Rattle.php_ast.specs.declared.declaration.ModifierWord.TheVariants as modifier
 use Rattle.php_ast.specs.Symbol as symbol
 use Rattle.php_ast.specs.Symbol.{Symbol, keyword, punct}
 use Rattle.php_ast.specs.expression.Tree as tree
-use Rattle.php_ast.specs.expression.Proper.{Proper, IsWord}
-use Rattle.php_ast.specs.expression.Spelling.{spell, member_symbol}
+use Rattle.php_ast.specs.expression.Proper.{IsWord}
+use Rattle.php_ast.specs.expression.Spelling.{member_symbol}
 use Rattle.php_ast.specs.statement.Tree.{Sequence, empty, then_also, Name, Variable}
-use Rattle.php_ast.specs.statement.Spelling.{separator, commas, symbol_if, spell_name, spell_variable}
+use Rattle.php_ast.specs.statement.Spelling.{separator, commas, spell_name, spell_variable}
 use Rattle.php_ast.specs.statement.Proper.{is_empty, Each, IfAny}
 use Rattle.php_ast.specs.declaration.Tree.{Modifier, ClassConstant, Rule, renames, prefers, Member, uses, uses_by, class_constants, method, properties}
 use Rattle.php_ast.specs.declaration.Spelling.{joined, modifier_word, spell_modifier, visibility_word, spell_visibility, spell_alias, spell_origin, spell_rule, spell_class_constant, spell_member}
 use Rattle.php_ast.specs.declaration.Proper.{is_visibility_word, IsProperRule, IsProperConstant, IsProperMember}
-use Rattle.php_grammar.specs.Run.{either, if_some, ReadingOf, through_expression}
+use Rattle.php_grammar.specs.Run.{either, if_some, ReadingOf}
 use Rattle.php_grammar.specs.expression.Role.{comma, semicolon, is_left_brace, word_of}
-use Rattle.php_grammar.specs.expression.Machine.{Nothing, Form, State, expects, any_symbol, pick, halt}
-use Rattle.php_grammar.specs.statement.Role.{Ending, closer, as_word, no_ending, ending, is_assign, is_semicolon, is_right_brace, name_text}
+use Rattle.php_grammar.specs.expression.Machine.{Nothing, State, expects, any_symbol, pick, halt}
+use Rattle.php_grammar.specs.statement.Role.{Ending, closer, ending, is_assign, is_semicolon, is_right_brace, name_text}
 use Rattle.php_grammar.specs.statement.Machine.{named_here}
 use Rattle.php_grammar.specs.statement.Reading.{any_name, end_symbol}
 use Rattle.php_grammar.specs.declaration.SignatureMachine.{any_word}
-use Rattle.php_grammar.specs.declaration.FunctionMachine.{method_form, Routine, FunctionState, past_function, advance_function, halt_function}
-use Rattle.php_grammar.specs.declaration.MemberMachine.{MemberRole, at_modifier, at_function, at_class_constants, at_use, at_variable, at_other, member_keyword, member_role, visibility_of_keyword, visibility_of, RuleRole, by_as, by_instead_of, by_colons, by_no_rule, rule_role, Word, Names, Modifiers, Rules, NamesIn, of_use, of_instead, MemberState, past_modifiers, due_trait, past_trait, due_constant, past_constant, in_constant, due_property, past_property, in_property, in_method, due_rule, past_first_word, past_colons, past_second_word, past_as, past_visibility, due_rule_end, past_member, with_modifier, with_rule, first_step, name_here, word_here, listed_step, constant_end, property_end, with_constant, with_property, due_property_step, method_of, first_word_step, second_word_step, rule_end, as_step, visibility_step, advance_member, least_properties, first_rest, names_member, names_rest, ruled, rule_rest, any_class_word, halt_member, read_member}
+use Rattle.php_grammar.specs.declaration.FunctionMachine.{method_form, Routine, FunctionState, advance_function, halt_function}
+use Rattle.php_grammar.specs.declaration.MemberMachine.{MemberRole, at_modifier, at_function, at_class_constants, at_use, at_variable, at_other, member_keyword, member_role, visibility_of_keyword, visibility_of, RuleRole, by_as, by_instead_of, by_colons, by_no_rule, rule_role, Word, Names, Modifiers, Rules, NamesIn, of_use, of_instead, MemberState, past_modifiers, due_trait, past_trait, due_constant, past_constant, in_constant, due_property, past_property, in_property, in_method, due_rule, past_first_word, past_colons, past_second_word, past_as, past_visibility, due_rule_end, past_member, with_rule, first_step, name_here, word_here, listed_step, constant_end, property_end, with_constant, with_property, due_property_step, method_of, first_word_step, second_word_step, rule_end, visibility_step, advance_member, first_rest, names_member, names_rest, rule_rest, any_class_word, halt_member, read_member}
 use Rattle.php_grammar.proofs.expression.Roles.{left_brace_says, WordSays, word_says}
 use Rattle.php_grammar.proofs.expression.Sound.{symbols_so_far}
 use Rattle.php_grammar.proofs.declaration.MemberBack.{member_halts, members_read_back}
@@ -34,7 +32,7 @@ use Rattle.php_grammar_laws.specs.Functions.{spell_routine, SpellsRoutine}
 use Rattle.php_grammar_laws.specs.Members.{SpellsMember, BeginsMember, BeginsAsMember}
 use Rattle.php_grammar_laws.proofs.Stops.{LeavesUnread, stops_exactly_by, unfinished_by}
 use Rattle.php_grammar_laws.proofs.Appends.{Appends, nothing, both, before, behind, in_front, expression_appends, name_appends, variable_appends, separated_appends}
-use Rattle.php_grammar_laws.proofs.Wholes.{IsInner, WholeBefore, through_leads, halts_inside, HaltsInside}
+use Rattle.php_grammar_laws.proofs.Wholes.{IsInner, through_leads, halts_inside, HaltsInside}
 use Rattle.php_grammar_laws.proofs.Begins.{Front, Same, with_one, next, Leads, either_leads, pick_leads, Begins, begins_by, one_appends, lent_leads}
 use Rattle.php_grammar_laws.proofs.Says.{EndingSays, ending_says, test_is, assign_says, semicolon_says, right_brace_says, NameSays, name_says}
 use Rattle.php_grammar_laws.proofs.statement.Steps.{nothing_read}

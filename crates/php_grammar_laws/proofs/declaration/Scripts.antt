@@ -6,15 +6,15 @@ use Rattle.php_token.specs.declared.kind.Punct.{Punct}
 use Rattle.php_token.specs.declared.kind.Punct.TheVariants as mark
 use Rattle.php_ast.specs.Symbol as symbol
 use Rattle.php_ast.specs.Symbol.{Symbol, keyword, punct}
-use Rattle.php_ast.specs.statement.Tree.{Sequence, empty, then_also, Name, Statement, Statements, no_statement}
+use Rattle.php_ast.specs.statement.Tree.{Sequence, empty, then_also, Name, Statement, Statements}
 use Rattle.php_ast.specs.statement.Spelling.{separator, commas, symbol_if, spell_name, spell_statement}
 use Rattle.php_ast.specs.statement.Proper.{Each, AreProper}
-use Rattle.php_ast.specs.declaration.Tree.{Function, ClassWord, Member, Item, of_statement, of_function, of_class, of_interface, of_trait, Script}
-use Rattle.php_ast.specs.declaration.Spelling.{joined, spell_signature, spell_block, spell_method_body, spell_member, class_modifier_word, spell_class_word, spell_parent, spell_names, spell_members, spell_item, spell_script}
+use Rattle.php_ast.specs.declaration.Tree.{Member, Item, of_statement, Script}
+use Rattle.php_ast.specs.declaration.Spelling.{joined, spell_signature, spell_block, spell_method_body, spell_member, class_modifier_word, spell_class_word, spell_parent, spell_names, spell_members, spell_item}
 use Rattle.php_ast.specs.declaration.Proper.{IsProperMethodBody, IsProperMember, IsProperItem}
 use Rattle.php_grammar.specs.Begins.{BeginsScript}
 use Rattle.php_grammar.specs.Run.{if_some, ReadingOf}
-use Rattle.php_grammar.specs.expression.Machine.{Nothing, pick}
+use Rattle.php_grammar.specs.expression.Machine.{Nothing}
 use Rattle.php_grammar.specs.statement.Role.{is_right_brace, name_text}
 use Rattle.php_grammar.specs.statement.Forms.{StatementState, due_statement}
 use Rattle.php_grammar.specs.statement.Laws.{SpellsStatement}
@@ -22,22 +22,22 @@ use Rattle.php_grammar.specs.statement.Machine.{advance_statement, named_here}
 use Rattle.php_grammar.specs.statement.Reading.{halt_statement, any_name, braces}
 use Rattle.php_grammar.specs.declaration.Laws.{SpellsScript}
 use Rattle.php_grammar.specs.declaration.SignatureMachine.{any_word}
-use Rattle.php_grammar.specs.declaration.FunctionMachine.{function_form, Routine, FunctionState, past_function, advance_function, halt_function}
+use Rattle.php_grammar.specs.declaration.FunctionMachine.{function_form, Routine, FunctionState, advance_function, halt_function}
 use Rattle.php_grammar.specs.declaration.MemberMachine.{MemberState, past_modifiers, advance_member, halt_member}
-use Rattle.php_grammar.specs.declaration.ScriptMachine.{ItemRole, at_function, at_class, at_class_word, at_interface, at_trait, at_statement, item_keyword, item_role, HeadingRole, by_extends, by_implements, by_comma, by_members, by_no_heading, heading_role, Items, Names, ClassWords, Heading, class_heading, interface_heading, trait_heading, Kind, class_kind, interface_kind, trait_kind, ScriptState, due_item, in_statement, in_function, past_class_words, due_heading_name, past_heading, due_parent, due_interface, due_member, in_member, item_of, block_of, function_of, with_item, statement_step, item_begun, item_step, class_word_step, begun_heading, with_interface, heading_step, name_here, member_begun, member_step, advance_script, halt_script, read_script}
+use Rattle.php_grammar.specs.declaration.ScriptMachine.{ItemRole, at_function, at_class, at_class_word, at_interface, at_trait, at_statement, item_keyword, item_role, HeadingRole, by_extends, by_implements, by_comma, by_members, by_no_heading, heading_role, Items, ClassWords, Heading, class_heading, interface_heading, trait_heading, Kind, class_kind, interface_kind, trait_kind, ScriptState, due_item, in_statement, in_function, past_class_words, due_heading_name, past_heading, due_parent, due_interface, due_member, in_member, item_of, block_of, function_of, with_item, item_begun, item_step, class_word_step, begun_heading, with_interface, heading_step, name_here, member_begun, member_step, advance_script, halt_script, read_script}
 use Rattle.php_grammar.proofs.declaration.ScriptBack.{scripts_read_back}
 use Rattle.php_grammar_laws.specs.Functions.{MayLack, spell_routine, SpellsRoutine}
 use Rattle.php_grammar_laws.specs.Members.{SpellsMember}
 use Rattle.php_grammar_laws.specs.Scripts.{BeginsAsScript}
 use Rattle.php_grammar_laws.proofs.Stops.{LeavesUnread, stops_exactly_by, unfinished_by}
-use Rattle.php_grammar_laws.proofs.Appends.{Appends, nothing, both, before, behind, statement_appends, statements_appends}
+use Rattle.php_grammar_laws.proofs.Appends.{Appends, nothing, before, statement_appends}
 use Rattle.php_grammar_laws.proofs.Begins.{Front, Same, with_one, next, Leads, pick_leads, Begins, begins_by, front_ends, one_appends, lent_leads, inner_leads}
 use Rattle.php_grammar_laws.proofs.Says.{test_is, right_brace_says, NameSays, name_says}
 use Rattle.php_grammar_laws.proofs.statement.Sound.{Reached}
 use Rattle.php_grammar_laws.proofs.statement.Places.{steps_lead}
 use Rattle.php_grammar_laws.proofs.statement.Laws.{halts_spelled}
 use Rattle.php_grammar_laws.proofs.declaration.Functions.{ReachedFunction, function_leads, function_spelled, function_names, behind_nothing, whole_front, routine_appends}
-use Rattle.php_grammar_laws.proofs.declaration.Members.{ReachedMember, member_leads, member_spelled, member_appends, joined_appends, names_appends}
+use Rattle.php_grammar_laws.proofs.declaration.Members.{ReachedMember, member_leads, member_spelled, member_appends}
 
 -- ---- what the roles say
 

@@ -1,35 +1,30 @@
 -- The laws of the machine of signatures.
-use Rattle.std.proofs.Common.{◌≡◌, ◌≢◌, ℕ, Bool, true, false, Option, Some, None, List, [], ◌∷◌, ◌++◌, refl, sym, ◌∙◌, ap, subst}
+use Rattle.std.proofs.Common.{◌≡◌, ◌≢◌, Bool, Some, None, List, [], ◌∷◌, ◌++◌, refl, sym, ◌∙◌, ap, subst}
 use Rattle.php_token.specs.declared.kind.Keyword.{Keyword}
 use Rattle.php_token.specs.declared.kind.Keyword.TheVariants as word
 use Rattle.php_token.specs.declared.kind.Punct.{Punct}
 use Rattle.php_token.specs.declared.kind.Punct.TheVariants as mark
 use Rattle.php_ast.specs.Symbol as symbol
 use Rattle.php_ast.specs.Symbol.{Symbol, keyword, punct}
-use Rattle.php_ast.specs.expression.Proper.{Proper}
-use Rattle.php_ast.specs.expression.Spelling.{spell}
-use Rattle.php_ast.specs.statement.Tree.{Sequence, empty, then_also, Name}
-use Rattle.php_ast.specs.statement.Spelling.{separator, commas, symbol_if, spell_name, spell_dollar, spell_value}
+use Rattle.php_ast.specs.statement.Tree.{empty, then_also}
+use Rattle.php_ast.specs.statement.Spelling.{separator, commas, symbol_if, spell_dollar, spell_value}
 use Rattle.php_ast.specs.statement.Proper.{is_empty, Each, IfAny}
 use Rattle.php_ast.specs.declaration.Tree.{Base, of_name, of_array, of_callable, Type_of, Param, Signature}
 use Rattle.php_ast.specs.declaration.Spelling.{spell_base, spell_type, spell_declared, spell_param, spell_result, spell_signature}
 use Rattle.php_ast.specs.declaration.Proper.{IsProperParam, IsProperSignature}
 use Rattle.php_grammar.specs.Begins.{BeginsSignature}
-use Rattle.php_grammar.specs.Run.{ReadingOf, through_expression}
 use Rattle.php_grammar.specs.expression.Role.{paren, comma, is_paren, is_right_paren, is_colon}
-use Rattle.php_grammar.specs.expression.Machine.{Nothing, Form, State, expects, any_symbol, pick, halt}
-use Rattle.php_grammar.specs.statement.Role.{Ending, closer, as_word, no_ending, ending, is_assign}
-use Rattle.php_grammar.specs.statement.Machine.{named_here}
-use Rattle.php_grammar.specs.statement.Reading.{any_name}
+use Rattle.php_grammar.specs.expression.Machine.{Nothing, State, expects, any_symbol, pick, halt}
+use Rattle.php_grammar.specs.statement.Role.{Ending, closer, ending, is_assign}
 use Rattle.php_grammar.specs.declaration.Laws.{SpellsSignature, SignatureEnds, ResultEnds}
-use Rattle.php_grammar.specs.declaration.SignatureMachine.{ParamRole, at_base, at_variable, at_question, at_reference, at_variadic, at_other, param_keyword, param_punct, param_role, Params, Declared, SignatureState, due_signature, due_param, past_question, past_type, past_reference, past_variadic, past_param, in_default, past_params, due_result, past_result_question, past_signature, type_of, param_of, with_default, signature_of, marked_step, reference_step, variadic_step, param_step, question_step, due_param_step, param_end, name_step, result_step, nullable_result_step, advance_signature, closing, with_param, due_param_rest, any_type, any_word, halt_signature, read_signature}
+use Rattle.php_grammar.specs.declaration.SignatureMachine.{ParamRole, at_base, at_variable, at_question, at_reference, at_variadic, at_other, param_keyword, param_punct, param_role, Params, Declared, SignatureState, due_signature, due_param, past_question, past_type, past_reference, past_variadic, past_param, in_default, past_params, due_result, past_result_question, past_signature, with_default, marked_step, reference_step, variadic_step, param_step, question_step, due_param_step, param_end, result_step, nullable_result_step, advance_signature, closing, with_param, due_param_rest, any_word, halt_signature, read_signature}
 use Rattle.php_grammar.proofs.expression.Roles.{paren_says, right_paren_says, colon_says}
 use Rattle.php_grammar.proofs.expression.Sound.{symbols_so_far}
 use Rattle.php_grammar.proofs.declaration.SignatureBack.{signatures_read_back, signature_halts}
 use Rattle.php_grammar_laws.specs.Signatures.{BeginsAsSignature}
 use Rattle.php_grammar_laws.proofs.Stops.{LeavesUnread, stops_exactly_by, unfinished_by}
-use Rattle.php_grammar_laws.proofs.Appends.{Appends, both, before, in_front, if_appends, name_appends, value_appends, separated_appends}
-use Rattle.php_grammar_laws.proofs.Wholes.{IsInner, WholeBefore, through_leads, halts_inside, HaltsInside}
+use Rattle.php_grammar_laws.proofs.Appends.{Appends, both, before, in_front, if_appends, value_appends, separated_appends}
+use Rattle.php_grammar_laws.proofs.Wholes.{IsInner, through_leads, halts_inside, HaltsInside}
 use Rattle.php_grammar_laws.proofs.Begins.{Front, Same, with_one, next, Leads, pick_leads, Begins, begins_by}
 use Rattle.php_grammar_laws.proofs.Says.{EndingSays, ending_says, test_is, assign_says}
 use Rattle.php_grammar_laws.proofs.statement.Steps.{nothing_read}

@@ -1,5 +1,5 @@
 -- Where the machine of statements halts, and its laws.
-use Rattle.std.proofs.Common.{◌≡◌, ◌≢◌, pos, Bool, true, false, Option, Some, None, List, [], ◌∷◌, ◌++◌, refl, sym, ◌∙◌, ap}
+use Rattle.std.proofs.Common.{◌≡◌, ◌≢◌, pos, Bool, true, false, None, List, [], ◌∷◌, ◌++◌, refl, sym, ◌∙◌, ap}
 use Rattle.php_token.specs.declared.kind.Punct.TheVariants as mark
 use Rattle.php_token.specs.declared.kind.Keyword.TheVariants as word
 use Rattle.php_ast.specs.Symbol.{Symbol, keyword, punct}
@@ -10,15 +10,15 @@ use Rattle.php_ast.specs.declared.statement.SwitchForm.TheVariants as switch_for
 use Rattle.php_ast.specs.declared.statement.CaseEnd.TheVariants as case_end
 use Rattle.php_ast.specs.statement.Spelling.{spell_statement, spell_statements, spell_name, spell_head, spell_target, jump_word}
 use Rattle.php_ast.specs.statement.Proper.{IsProper, AreProper, AreAny}
-use Rattle.php_ast.specs.statement.Tree.{Sequence, empty, then_also, Name, Target}
-use Rattle.php_ast.specs.statement.Tree.{Statement, block, blank, inline, expression, echo, globals, statics, unset, constants, jump, throw, if_lists, if_else_lists, while, do_while, for, foreach, switch, try_catch, try_finally, declares}
-use Rattle.php_ast.specs.statement.Tree.{Statements, no_statement, and_statement, no_elseif, and_elseif, ElseIfLists, no_elseif_list, and_elseif_list, single, if_only, list_behind_colon, Cases, no_case, and_case, Catches, no_catch, and_catch}
+use Rattle.php_ast.specs.statement.Tree.{empty, Name}
+use Rattle.php_ast.specs.statement.Tree.{Statement, jump, switch, try_catch, try_finally, declares}
+use Rattle.php_ast.specs.statement.Tree.{Statements, no_statement, no_elseif, single, if_only, no_case, and_case, no_catch, and_catch}
 use Rattle.php_grammar.specs.Begins.{BeginsStatement}
-use Rattle.php_grammar.specs.expression.Machine.{Nothing, Form, State, any, any_symbol, Reading, is_last, halt}
+use Rattle.php_grammar.specs.expression.Machine.{Nothing, Form, State, any, is_last, halt}
 use Rattle.php_grammar.specs.statement.Laws.{SpellsStatement, StatementEnds}
-use Rattle.php_grammar.specs.statement.Reading.{tested_statement, head_rest, read_statement_from, any_statement, any_name, end_symbol, right_paren_symbol, braces, form_rest, list_rest, completed_around, missing_around, values_statement, values_rest, placed_statement, place_rest, named_statement, name_symbol, name_rest, fixed_symbols, halt_statement, read_statement}
+use Rattle.php_grammar.specs.statement.Reading.{tested_statement, head_rest, read_statement_from, any_statement, any_name, end_symbol, list_rest, completed_around, missing_around, values_statement, values_rest, placed_statement, place_rest, named_statement, name_symbol, name_rest, fixed_symbols, halt_statement, read_statement}
 use Rattle.php_grammar.specs.statement.Machine.{advance_statement}
-use Rattle.php_grammar.specs.statement.Forms.{Loop, while_loop, for_loop, foreach_loop, StatementList, of_block, of_if, of_elseif, of_else, of_loop, of_case, of_try, of_catch, of_finally, list_open, if_open, elseif_open, else_open, loop_open, do_open, OpenStatement, Around, Head, if_head, elseif_head, elseif_list_head, while_head, do_head, switch_head, Values, of_echo, of_unset, of_starts, of_tests, of_steps, ExpressionPlace, as_line, as_value, as_static, as_constant, as_jump, as_thrown, as_test, as_walked, as_first, as_second, as_label, Names, of_globals, of_statics, of_constants, of_classes, of_declare, StatementState, due_statement, done, due, in_expression, due_in_list, due_value, due_name, past_name, due_int, past_static_word, past_jump, past_if, past_loop, past_as, past_key, past_switch, due_case, past_default, past_block, looped, listed_statement, completed_statement}
+use Rattle.php_grammar.specs.statement.Forms.{Loop, while_loop, for_loop, foreach_loop, StatementList, of_block, of_if, of_elseif, of_else, of_loop, of_case, of_try, of_catch, of_finally, Around, Head, if_head, elseif_head, elseif_list_head, while_head, do_head, switch_head, Values, of_echo, of_unset, of_starts, of_tests, of_steps, ExpressionPlace, as_line, as_value, as_static, as_constant, as_jump, as_thrown, as_test, as_walked, as_first, as_second, as_label, Names, of_globals, of_statics, of_constants, of_classes, of_declare, StatementState, due_statement, done, due, in_expression, due_in_list, due_value, due_name, past_name, due_int, past_static_word, past_jump, past_if, past_loop, past_as, past_key, past_switch, due_case, past_default, past_block, looped, listed_statement, completed_statement}
 use Rattle.php_grammar.proofs.expression.Sound.{symbols_so_far}
 use Rattle.php_grammar.proofs.expression.Appended.{spell_append}
 use Rattle.php_grammar.proofs.statement.LawProofs.{statements_read_back, statement_stops}
@@ -27,7 +27,7 @@ use Rattle.php_grammar_laws.proofs.Stops.{LeavesUnread, stops_exactly_by, unfini
 use Rattle.php_grammar_laws.proofs.Appends.{statement_appends, in_front}
 use Rattle.php_grammar_laws.proofs.Wholes.{IsInner, HaltsInside, halts_inside}
 use Rattle.php_grammar_laws.proofs.Begins.{Front, Same, Begins, begins_by}
-use Rattle.php_grammar_laws.proofs.statement.Sound.{loop_front, head_front, switch_front, try_front, walked_front, SoundHead, open_front, around_front, list_front, values_front, names_front, spelled_in, place_front, state_front, SoundLoop, SoundAround, SoundList, SoundValues, MayLackValues, SoundNames, SoundPlace, SoundState, Reached}
+use Rattle.php_grammar_laws.proofs.statement.Sound.{loop_front, head_front, switch_front, try_front, walked_front, SoundHead, around_front, list_front, values_front, names_front, spelled_in, place_front, SoundLoop, SoundAround, SoundList, SoundValues, MayLackValues, SoundNames, SoundPlace, Reached}
 use Rattle.php_grammar_laws.proofs.statement.Steps.{completed_proper, completed_spells}
 use Rattle.php_grammar_laws.proofs.statement.Places.{steps_lead}
 

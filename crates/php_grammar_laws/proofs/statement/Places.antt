@@ -1,5 +1,5 @@
 -- Steps of the machine of statements that lead on: behind expressions and names, and all others.
-use Rattle.std.proofs.Common.{◌≡◌, ℕ, Bool, true, false, Option, Some, None, List, [], ◌∷◌, ◌++◌, refl, sym, ◌∙◌, ap, subst}
+use Rattle.std.proofs.Common.{◌≡◌, ℕ, Bool, true, false, Option, Some, None, List, [], ◌∷◌, refl, sym, ◌∙◌, ap, subst}
 use Rattle.php_token.specs.declared.kind.Keyword.TheVariants as word
 use Rattle.php_token.specs.declared.kind.Punct.TheVariants as mark
 use Rattle.php_ast.specs.declared.statement.SwitchForm.{SwitchForm}
@@ -8,25 +8,24 @@ use Rattle.php_ast.specs.Symbol as symbol
 use Rattle.php_ast.specs.Symbol.{Symbol, keyword, punct}
 use Rattle.php_ast.specs.expression.Tree.{Items, none, and, plain}
 use Rattle.php_ast.specs.expression.Spelling.{spell, spell_items}
-use Rattle.php_ast.specs.expression.Proper.{Proper, IsKey, ends_bare}
+use Rattle.php_ast.specs.expression.Proper.{Proper, ends_bare}
 use Rattle.php_ast.specs.statement.Spelling.{jump_word, spell_head, spell_target}
 use Rattle.php_ast.specs.statement.Proper.{AreAny, AreProperCases}
-use Rattle.php_ast.specs.statement.Tree.{Sequence, empty, then_also, Name, Target}
-use Rattle.php_ast.specs.statement.Tree.{Statement, block, blank, inline, expression, echo, globals, statics, unset, constants, jump, throw, if_lists, if_else_lists, while, do_while, for, foreach, switch, try_catch, try_finally, declares}
-use Rattle.php_ast.specs.statement.Tree.{Statements, no_statement, and_statement, no_elseif, and_elseif, ElseIfLists, no_elseif_list, and_elseif_list, list_behind_colon, Cases, no_case, and_case, Catches, no_catch, and_catch}
-use Rattle.php_grammar.specs.expression.Role.{Closer, paren, bracket, brace, comma, double_arrow, colon, semicolon, part_end, continuation, ends_yield, is_ampersand, is_colon, is_left_brace}
-use Rattle.php_grammar.specs.expression.Machine.{Nothing, Form, State, expects, past_static, pick}
+use Rattle.php_ast.specs.statement.Tree.{Sequence, then_also, Name}
+use Rattle.php_ast.specs.statement.Tree.{jump}
+use Rattle.php_ast.specs.statement.Tree.{Statements, Cases, no_case, Catches}
+use Rattle.php_grammar.specs.expression.Role.{Closer, paren, comma, double_arrow, colon, semicolon, continuation, ends_yield, is_ampersand, is_colon, is_left_brace}
+use Rattle.php_grammar.specs.expression.Machine.{Nothing, Form, State, past_static, pick}
 use Rattle.php_grammar.specs.Run.{if_some}
-use Rattle.php_grammar.specs.statement.Reading.{fixed_symbols}
-use Rattle.php_grammar.specs.statement.Forms.{Loop, while_loop, for_loop, foreach_loop, StatementList, of_block, of_if, of_elseif, of_else, of_loop, of_case, of_try, of_catch, of_finally, list_open, if_open, elseif_open, else_open, loop_open, do_open, OpenStatement, Around, Head, if_head, elseif_head, elseif_list_head, while_head, do_head, switch_head, Values, of_echo, of_unset, of_starts, of_tests, of_steps, ExpressionPlace, as_line, as_value, as_static, as_constant, as_jump, as_thrown, as_test, as_walked, as_first, as_second, as_label, Names, of_globals, of_statics, of_constants, of_classes, of_declare, StatementState, due_statement, done, due, in_expression, due_in_list, due_value, due_name, past_name, due_int, past_static_word, past_jump, past_if, past_loop, past_as, past_key, past_switch, due_case, past_default, past_block, completed_statement}
+use Rattle.php_grammar.specs.statement.Forms.{of_if, of_loop, if_open, loop_open, Around, Head, if_head, elseif_head, elseif_list_head, while_head, do_head, switch_head, Values, of_echo, of_unset, of_starts, of_tests, of_steps, ExpressionPlace, as_line, as_value, as_static, as_constant, as_jump, as_thrown, as_test, as_walked, as_first, as_second, as_label, Names, of_globals, of_statics, of_constants, of_classes, of_declare, StatementState, due_statement, done, due, in_expression, due_in_list, due_value, due_name, past_name, due_int, past_static_word, past_jump, past_if, past_loop, past_as, past_key, past_switch, due_case, past_default, past_block}
 use Rattle.php_grammar.specs.statement.Role.{behind, Ending, closer, as_word, no_ending, ending, Fixed, fixed_symbol, is_fixed, is_semicolon, is_assign, is_bar, name_text, variable_text}
-use Rattle.php_grammar.specs.statement.Machine.{expected, entered, listing, begin, due_rest, due_step, values_end, values_step, tested, labelled, filled, expression_step, named_here, name_in, class_step, name_step, static_step, before_semicolon, int_step, target_step, switch_step, default_step, advance_statement}
+use Rattle.php_grammar.specs.statement.Machine.{expected, entered, listing, begin, due_step, values_end, values_step, tested, filled, expression_step, named_here, class_step, name_step, static_step, int_step, target_step, switch_step, default_step, advance_statement}
 use Rattle.php_grammar.proofs.expression.Roles.{closer_symbol, colon_says, ampersand_says, left_brace_says}
 use Rattle.php_grammar.proofs.expression.Sound.{symbols_so_far}
 use Rattle.php_grammar_laws.proofs.Wholes.{IsInner, WholeBefore, through_leads}
 use Rattle.php_grammar_laws.proofs.Begins.{Front, Same, with_one, next, Leads, either_leads, pick_leads}
 use Rattle.php_grammar_laws.proofs.Says.{EndingSays, ending_says, behind_says, test_is, semicolon_says, assign_says, bar_says, fixed_says, NameSays, name_says, VariableSays, variable_says}
-use Rattle.php_grammar_laws.proofs.statement.Sound.{loop_front, switch_front, try_front, around_front, values_front, head_front, walked_front, names_front, spelled_in, place_front, state_front, SoundLoop, SoundAround, SoundValues, FitsValues, MayLackValues, SoundHead, SoundTry, SoundNames, SoundWalked, SoundPlace, SoundState, Reached}
+use Rattle.php_grammar_laws.proofs.statement.Sound.{loop_front, switch_front, around_front, values_front, head_front, walked_front, names_front, spelled_in, place_front, SoundAround, SoundValues, FitsValues, MayLackValues, SoundHead, SoundTry, SoundNames, SoundPlace, Reached}
 use Rattle.php_grammar_laws.proofs.statement.Steps.{nothing_read, entered_leads, begin_leads, list_leads, case_leads, past_leads, block_leads}
 
 -- ---- what a symbol says of the end of an expression before it

@@ -1,12 +1,12 @@
 -- What the states of the machine of statements stand for: the symbols that were read, and what holds of the trees in them.
-use Rattle.std.proofs.Common.{◌≡◌, Bool, true, false, Option, Some, None, List, [], ◌∷◌}
+use Rattle.std.proofs.Common.{◌≡◌, false, [], ◌∷◌}
 use Rattle.php_token.specs.declared.kind.Keyword.TheVariants as word
 use Rattle.php_token.specs.declared.kind.Punct.TheVariants as mark
 use Rattle.php_ast.specs.Symbol as symbol
 use Rattle.php_ast.specs.Symbol.{Symbol, keyword, punct}
 use Rattle.php_ast.specs.expression.Tree.{Items}
 use Rattle.php_ast.specs.expression.Spelling.{spell, spell_items, comma}
-use Rattle.php_ast.specs.expression.Proper.{Proper, AreValues, AreProperItems, IsKey, ends_bare}
+use Rattle.php_ast.specs.expression.Proper.{Proper, IsKey, ends_bare}
 use Rattle.php_ast.specs.declared.statement.SwitchForm.{SwitchForm}
 use Rattle.php_ast.specs.statement.Tree.{Name, Statement, Statements, ElseIfs, ElseIfLists, Cases, Catches}
 use Rattle.php_ast.specs.statement.Spelling.{separator, separated, commas, spell_name, spell_dollar, spell_variable, spell_constant, symbol_if, jump_word, spell_target, spell_key, spell_head, spell_label, case_end_symbol, cases_opening, spell_statement, spell_statements, spell_elseifs, spell_elseif_lists, spell_cases, spell_catches}

@@ -1,33 +1,28 @@
 -- Steps of the machine of statements that lead on: where a statement is due, at the end of lists, and behind a statement.
-use Rattle.std.proofs.Common.{◌≡◌, ◌≤◌, ◌<◌, ℕ, suc, Bool, true, false, Option, Some, None, List, [], ◌∷◌, ◌++◌, refl, sym, ◌∙◌, ap, arith, ltb-true, ltb-false}
+use Rattle.std.proofs.Common.{◌≡◌, ℕ, Bool, true, false, Option, Some, None, List, [], ◌∷◌, ◌++◌, refl, sym, ◌∙◌, ap, arith, ltb-true}
 use Rattle.std.specs.Prelude.{nat_lt}
-use Rattle.php_token.specs.declared.kind.Keyword.TheVariants as word
 use Rattle.php_token.specs.declared.kind.Punct.TheVariants as mark
 use Rattle.php_ast.specs.declared.statement.SwitchForm.{SwitchForm}
 use Rattle.php_ast.specs.declared.statement.SwitchForm.TheVariants as switch_form
-use Rattle.php_ast.specs.Symbol as symbol
-use Rattle.php_ast.specs.Symbol.{Symbol, keyword, punct}
-use Rattle.php_ast.specs.expression.Tree.{none}
-use Rattle.php_ast.specs.statement.Spelling.{jump_word, spell_statement, spell_statements}
+use Rattle.php_ast.specs.Symbol.{Symbol, punct}
+use Rattle.php_ast.specs.statement.Spelling.{spell_statement, spell_statements}
 use Rattle.php_ast.specs.statement.Proper.{takes_else, last_takes, last_list, NoListTakes, AreProperCases, AreProperLists, IsProper, AreProper}
 use Rattle.php_ast.specs.expression.Proper.{Proper}
-use Rattle.php_ast.specs.statement.Tree.{Sequence, empty, then_also, Name, Target}
-use Rattle.php_ast.specs.statement.Tree.{Statement, block, blank, inline, expression, echo, globals, statics, unset, constants, jump, throw, if_lists, if_else_lists, while, do_while, for, foreach, switch, try_catch, try_finally, declares}
-use Rattle.php_ast.specs.statement.Tree.{Statements, no_statement, and_statement, no_elseif, and_elseif, ElseIfLists, no_elseif_list, and_elseif_list, list_behind_colon, Cases, no_case, and_case, Catches, no_catch, and_catch}
+use Rattle.php_ast.specs.statement.Tree.{Statement, try_catch}
+use Rattle.php_ast.specs.statement.Tree.{Statements, and_statement, ElseIfLists, no_elseif_list, and_elseif_list, Cases, and_case, Catches, no_catch, and_catch}
 use Rattle.php_grammar.specs.expression.Machine.{Nothing, Form, State, expects, advance, pick}
-use Rattle.php_grammar.specs.Run.{either, if_some}
+use Rattle.php_grammar.specs.Run.{if_some}
 use Rattle.php_grammar.specs.statement.Reading.{form_rest}
-use Rattle.php_grammar.specs.statement.Forms.{Loop, while_loop, for_loop, foreach_loop, StatementList, of_block, of_if, of_elseif, of_else, of_loop, of_case, of_try, of_catch, of_finally, list_open, if_open, elseif_open, else_open, loop_open, do_open, OpenStatement, Around, Head, if_head, elseif_head, elseif_list_head, while_head, do_head, switch_head, Values, of_echo, of_unset, of_starts, of_tests, of_steps, ExpressionPlace, as_line, as_value, as_static, as_constant, as_jump, as_thrown, as_test, as_walked, as_first, as_second, as_label, Names, of_globals, of_statics, of_constants, of_classes, of_declare, StatementState, due_statement, done, due, in_expression, due_in_list, due_value, due_name, past_name, due_int, past_static_word, past_jump, past_if, past_loop, past_as, past_key, past_switch, due_case, past_default, past_block, completed_statement}
-use Rattle.php_grammar.specs.statement.Role.{StatementBeginning, at_block, at_blank, at_inline, at_echo, at_globals, at_statics, at_unset, at_constants, at_jump, at_throw, at_if, at_while, at_do, at_for, at_foreach, at_switch, at_try, at_declare, at_expression, statement_beginning, Behind, by_else, by_elseif, by_while, by_case, by_default, by_brace, by_endif, by_endwhile, by_endfor, by_endforeach, by_endswitch, by_catch, by_finally, by_other, behind, body_strength}
-use Rattle.php_grammar.specs.statement.Machine.{least_strength, ReachedStatement, released_bodies, entered, begun, begin, case_step, lists_step, loop_end, list_end, list_step, form_step, reached_step, past_statement, block_step}
+use Rattle.php_grammar.specs.statement.Forms.{Loop, while_loop, for_loop, foreach_loop, StatementList, of_block, of_if, of_elseif, of_else, of_loop, of_case, of_try, of_catch, of_finally, list_open, if_open, elseif_open, else_open, loop_open, do_open, OpenStatement, Around, ExpressionPlace, as_line, in_expression, completed_statement}
+use Rattle.php_grammar.specs.statement.Role.{StatementBeginning, at_block, at_blank, at_inline, at_echo, at_globals, at_statics, at_unset, at_constants, at_jump, at_throw, at_if, at_while, at_do, at_for, at_foreach, at_switch, at_try, at_declare, at_expression, statement_beginning, Behind, by_else, by_elseif, by_while, by_case, by_default, by_brace, by_endif, by_endwhile, by_endfor, by_endforeach, by_endswitch, by_catch, by_finally, behind, body_strength}
+use Rattle.php_grammar.specs.statement.Machine.{least_strength, ReachedStatement, released_bodies, entered, begun, begin, case_step, lists_step, loop_end, list_end, list_step, form_step, past_statement, block_step}
 use Rattle.php_grammar.proofs.expression.SoundSteps.{LeadsOn}
 use Rattle.php_grammar.proofs.expression.Soundness.{every_step_leads}
-use Rattle.php_grammar.proofs.expression.Sound.{symbols_so_far}
-use Rattle.php_grammar_laws.proofs.Appends.{Appends, nothing}
+use Rattle.php_grammar_laws.proofs.Appends.{nothing}
 use Rattle.php_grammar_laws.proofs.Wholes.{IsInner}
 use Rattle.php_grammar_laws.proofs.Begins.{Front, Same, with_one, next, Leads, either_leads}
 use Rattle.php_grammar_laws.proofs.Says.{StatementSays, statement_says, BehindSays, behind_says}
-use Rattle.php_grammar_laws.proofs.statement.Sound.{loop_front, try_front, switch_front, elseif_list_front, list_front, open_front, around_front, place_front, SoundLoop, SoundIfLists, SoundTry, SoundList, SoundOpen, SoundAround, SoundPlace, Reached}
+use Rattle.php_grammar_laws.proofs.statement.Sound.{loop_front, try_front, switch_front, elseif_list_front, list_front, open_front, around_front, place_front, SoundLoop, SoundTry, SoundList, SoundOpen, SoundAround, SoundPlace, Reached}
 
 -- ---- an expression begins
 
