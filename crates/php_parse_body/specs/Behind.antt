@@ -1,12 +1,11 @@
 -- What the productions answer that read what stands behind an expression, and what looks answer them.
-use Rattle.std.specs.Prelude.{◌≡◌, ◌≢◌, ◌≤◌, ◌<◌, ℕ, ◌+◌, Bool, true, false, Option, Some, None, Result, List, ◌∷◌}
+use Rattle.std.specs.Prelude.{◌≡◌, ◌≢◌, ◌≤◌, ◌<◌, ℕ, ◌+◌, Option, Some, None, Result, List, ◌∷◌}
 use Rattle.php_token.specs.Token.{Token}
 use Rattle.php_ast.specs.expression.Tree as tree
 use Rattle.php_ast.specs.expression.Proper.{ends, free, operand_level}
 use Rattle.php_ast.specs.expression.View.{view}
 use Rattle.php_grammar.specs.expression.Role as role
 use Rattle.php_grammar.specs.expression.Role.{continuation, draws, draw_strength}
-use Rattle.php_grammar.specs.expression.Laws.{head_continuation}
 use Rattle.php_grammar.specs.expression.Machine.{Form, expects, holds, yield_open}
 use Rattle.php_reader.specs.declared.reader.Reader.{Reader}
 use Rattle.php_reader.specs.declared.fail.Stop.{Stop}

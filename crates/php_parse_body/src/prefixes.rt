@@ -8,7 +8,6 @@ ghost use Rattle.php_ast.specs.expression.Proper.{edge, free, right};
 ghost use Rattle.php_grammar.specs.expression.Role as role;
 ghost use Rattle.php_grammar.specs.expression.Role.{beginning, closes, continuation, draws, ends_yield, is_ampersand};
 ghost use Rattle.php_ast.specs.declared.operator.Assign.TheVariants.{Plain};
-ghost use Rattle.php_grammar.specs.expression.Laws.{head_continuation};
 ghost use Rattle.php_reader.specs.declared.role.Opening.TheVariants.{Static};
 ghost use Rattle.php_parse_operands.specs.Answer.{AnswersHere};
 ghost use Rattle.php_parse_body.specs.Behind.{AnswersAssigned, AnswersYield, SeesChange, SeesStatic};
