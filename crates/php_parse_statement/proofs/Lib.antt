@@ -1,3 +1,4 @@
 pub mod Bridge
 pub mod Moves
 pub mod Inside
+pub mod Sees

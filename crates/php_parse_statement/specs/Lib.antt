@@ -1,2 +1,4 @@
 pub mod Walk
 pub mod RoleView
+pub mod Parts
+pub mod Answer

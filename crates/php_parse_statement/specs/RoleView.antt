@@ -3,13 +3,16 @@ use Rattle.std.specs.Prelude.{◌≡◌, ◌≢◌, ℕ, Bool, true, false, Opti
 use Rattle.php_token.specs.Token.{Token}
 use Rattle.php_ast.specs.Symbol.{Symbol}
 use Rattle.php_ast.specs.statement.Tree.{Jump, returning, breaking, continuing}
-use Rattle.php_grammar.specs.statement.Role.{StatementBeginning, at_block, at_blank, at_inline, at_echo, at_globals, at_statics, at_unset, at_constants, at_jump, at_throw, at_if, at_while, at_do, at_for, at_foreach, at_switch, at_try, at_declare, at_expression, statement_beginning, Behind, by_else, by_elseif, by_while, by_case, by_default, by_brace, by_endif, by_endwhile, by_endfor, by_endforeach, by_endswitch, by_catch, by_finally, by_other, behind}
+use Rattle.php_grammar.specs.statement.Role.{StatementBeginning, at_block, at_blank, at_inline, at_echo, at_globals, at_statics, at_unset, at_constants, at_jump, at_throw, at_if, at_while, at_do, at_for, at_foreach, at_switch, at_try, at_declare, at_expression, statement_beginning, Behind, by_else, by_elseif, by_while, by_case, by_default, by_brace, by_endif, by_endwhile, by_endfor, by_endforeach, by_endswitch, by_catch, by_finally, by_other, behind, Ending, left_paren, right_paren, left_brace, fixed_colon, fixed_semicolon, fixed_assign}
+use Rattle.php_grammar.specs.statement.Role as role
 use Rattle.php_grammar.specs.statement.Laws.{head_behind}
 use Rattle.php_reader.specs.Seen.{rest, Shows}
 use Rattle.php_parse_statement.specs.declared.role.JumpKind.{JumpKind}
 use Rattle.php_parse_statement.specs.declared.role.JumpKind.TheVariants as jump_kind
 use Rattle.php_parse_statement.specs.declared.role.Begun.{Begun}
 use Rattle.php_parse_statement.specs.declared.role.Begun.TheVariants as begun
+use Rattle.php_parse_statement.specs.declared.role.Fixed.{Fixed}
+use Rattle.php_parse_statement.specs.declared.role.Fixed.TheVariants as fixed
 use Rattle.php_parse_statement.specs.declared.role.After.{After}
 use Rattle.php_parse_statement.specs.declared.role.After.TheVariants as after
 
@@ -68,3 +71,16 @@ after_view after.Other = by_other
 abbrev pub StandsBehind : List Token → ℕ → Behind → Type 0
 StandsBehind tokens at by_other = head_behind (rest tokens at) ≡ by_other
 StandsBehind tokens at x = Shows behind tokens at x
+
+abbrev pub fixed_view : Fixed → role.Fixed
+fixed_view fixed.LeftParen = left_paren
+fixed_view fixed.RightParen = right_paren
+fixed_view fixed.LeftBrace = left_brace
+fixed_view fixed.Colon = fixed_colon
+fixed_view fixed.Semicolon = fixed_semicolon
+fixed_view fixed.Assign = fixed_assign
+
+-- whether it is this one
+abbrev pub IsEnding : Ending → Ending → Bool → Type 0
+IsEnding x e true = x ≡ e
+IsEnding x e false = x ≢ e

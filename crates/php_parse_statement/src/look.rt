@@ -1,13 +1,25 @@
 // Looks at the token at a place.
 
-ghost use Rattle.std.specs.Prelude.{◌≡◌, true, false, [], drop, map};
+ghost use Rattle.std.specs.Prelude.{◌≡◌, ◌≢◌, ◌<◌, true, false, [], drop, map, IfOk};
 ghost use Rattle.php_token.specs.Token.{token_at};
 ghost use Rattle.php_ast.specs.Symbol.{symbol};
-ghost use Rattle.php_reader.specs.Seen.{Stands, rest};
-ghost use Rattle.php_parse_statement.specs.RoleView.{StandsBehind, StartsStatement, after_view, begun_view};
+ghost use Rattle.php_grammar.specs.statement.Role as role;
+ghost use Rattle.php_grammar.specs.statement.Role.{as_word, ending, is_fixed, name_text, variable_text};
+ghost use Rattle.php_reader.specs.Seen.{Shows, Stands, Tests, rest};
+ghost use Rattle.php_reader.specs.SignView.{closer_view};
+ghost use Rattle.php_parse_statement.specs.Answer.{ShowsName};
+ghost use Rattle.php_parse_statement.specs.RoleView.{StandsBehind, StartsStatement, after_view, begun_view, fixed_view};
+ghost use Rattle.php_parse_statement.specs.Walk.{head_ending};
 
-use crate::role::{After, Begun, after_by, begun_by};
+use crate::role::{
+    After, Begun, Fixed, after_by, begun_by, is_as, is_fixed, is_name, is_variable,
+};
+use php_ast::Name;
+use php_base::NoMemory;
 use php_lex::Tokens;
+use php_reader::look::{ends_with, name_at};
+use php_reader::sign::Closer;
+use std::alloc::Global;
 
 /// Whether there is a token at a place.
 fn stands(tokens: &Tokens, at: usize) -> bool
@@ -35,4 +47,61 @@ pub(crate) fn after_at(tokens: &Tokens, at: usize) -> After
         return After::Other;
     }
     after_by(tokens.kind(at))
+}
+
+/// Whether this token stands at a place.
+pub(crate) fn sees(tokens: &Tokens, at: usize, fixed: Fixed) -> bool
+    ensures { Tests (is_fixed (fixed_view fixed)) tokens.now at result }
+{
+    if !stands(tokens, at) {
+        return false;
+    }
+    is_fixed(tokens.kind(at), fixed)
+}
+
+/// Whether this token stands at a place, behind an expression.
+pub(crate) fn ends(tokens: &Tokens, at: usize, closer: Closer) -> bool
+    ensures yes { result ≡ true → Shows ending tokens.now at (role.closer (closer_view closer)) }
+    ensures no { result ≡ false → head_ending (rest tokens.now at) ≢ role.closer (closer_view closer) }
+{
+    ends_with(tokens, at, closer)
+}
+
+/// Whether `as` stands at a place, behind an expression.
+pub(crate) fn sees_as(tokens: &Tokens, at: usize) -> bool
+    ensures yes { result ≡ true → Shows ending tokens.now at as_word }
+    ensures no { result ≡ false → head_ending (rest tokens.now at) ≢ as_word }
+{
+    if !stands(tokens, at) {
+        return false;
+    }
+    is_as(tokens.kind(at))
+}
+
+/// The name of the variable at a place, if one stands there. `NoMemory` comes for want of memory.
+pub(crate) fn variable_at(
+    alloc: Global,
+    tokens: &Tokens,
+    at: usize,
+) -> Result<Option<Name>, NoMemory>
+    ensures { IfOk result (λ n. ShowsName variable_text tokens.now at n) }
+{
+    if !stands(tokens, at) || !is_variable(tokens.kind(at)) {
+        return Ok(None);
+    }
+    Ok(Some(name_at(alloc, tokens, at)?))
+}
+
+/// The name at a place, if one stands there that is no variable's. `NoMemory` comes for want of memory.
+pub(crate) fn bare_name_at(
+    alloc: Global,
+    tokens: &Tokens,
+    at: usize,
+) -> Result<Option<Name>, NoMemory>
+    ensures { IfOk result (λ n. ShowsName name_text tokens.now at n) }
+{
+    if !stands(tokens, at) || !is_name(tokens.kind(at)) {
+        return Ok(None);
+    }
+    Ok(Some(name_at(alloc, tokens, at)?))
 }

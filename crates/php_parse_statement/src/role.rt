@@ -2,8 +2,9 @@
 
 ghost use Rattle.std.specs.Prelude.{◌≡◌, ℕ, ℤ, List};
 ghost use Rattle.php_ast.specs.Symbol.{symbol_of};
-ghost use Rattle.php_grammar.specs.statement.Role.{behind, behind_keyword, behind_punct, statement_beginning, statement_keyword, statement_punct};
-ghost use Rattle.php_parse_statement.specs.RoleView.{after_view, begun_view};
+ghost use Rattle.php_grammar.specs.statement.Role.{as_word, behind, behind_keyword, behind_punct, ending, is_fixed, name_text, statement_beginning, statement_keyword, statement_punct, variable_text};
+ghost use Rattle.php_parse_statement.specs.Answer.{text_if};
+ghost use Rattle.php_parse_statement.specs.RoleView.{IsEnding, after_view, begun_view, fixed_view};
 
 use php_lex::{Keyword, Punct, TokenKind};
 
@@ -61,6 +62,17 @@ pub enum After {
     Catch,
     Finally,
     Other,
+}
+
+/// A token that is due whatever else was read.
+#[derive(Clone, Copy)]
+pub enum Fixed {
+    LeftParen,
+    RightParen,
+    LeftBrace,
+    Colon,
+    Semicolon,
+    Assign,
 }
 
 fn begun_by_keyword(keyword: Keyword) -> Begun
@@ -148,4 +160,39 @@ pub(crate) fn after_by(kind: TokenKind) -> After
         TokenKind::Punct(punct) => after_by_punct(punct),
         _ => After::Other,
     }
+}
+
+/// Whether it is this token.
+pub(crate) fn is_fixed(kind: TokenKind, fixed: Fixed) -> bool
+    ensures { (text : List ℕ) (value : ℤ) → is_fixed (fixed_view fixed) (symbol_of kind text value) ≡ result }
+{
+    match fixed {
+        Fixed::LeftParen => matches!(kind, TokenKind::Punct(Punct::LeftParen)),
+        Fixed::RightParen => matches!(kind, TokenKind::Punct(Punct::RightParen)),
+        Fixed::LeftBrace => matches!(kind, TokenKind::Punct(Punct::LeftBrace)),
+        Fixed::Colon => matches!(kind, TokenKind::Punct(Punct::Colon)),
+        Fixed::Semicolon => matches!(kind, TokenKind::Punct(Punct::Semicolon)),
+        Fixed::Assign => matches!(kind, TokenKind::Punct(Punct::Assign)),
+    }
+}
+
+/// Whether it is `as`.
+pub(crate) fn is_as(kind: TokenKind) -> bool
+    ensures { (text : List ℕ) (value : ℤ) → IsEnding (ending (symbol_of kind text value)) as_word result }
+{
+    matches!(kind, TokenKind::Keyword(Keyword::As))
+}
+
+/// Whether it is a variable.
+pub(crate) fn is_variable(kind: TokenKind) -> bool
+    ensures { (text : List ℕ) (value : ℤ) → variable_text (symbol_of kind text value) ≡ text_if result text }
+{
+    matches!(kind, TokenKind::Variable)
+}
+
+/// Whether it is a name.
+pub(crate) fn is_name(kind: TokenKind) -> bool
+    ensures { (text : List ℕ) (value : ℤ) → name_text (symbol_of kind text value) ≡ text_if result text }
+{
+    matches!(kind, TokenKind::Name)
 }
