@@ -1,6 +1,7 @@
 -- From the roles of tokens in the program to those of the grammar of statements.
-use Rattle.std.specs.Prelude.{◌≡◌, ◌≢◌, ℕ, Bool, true, false, Option, Some, None, List, [], ◌∷◌}
+use Rattle.std.specs.Prelude.{◌≡◌, ◌≢◌, ℕ, ℤ, Bool, true, false, Option, Some, None, List, [], ◌∷◌}
 use Rattle.php_token.specs.Token.{Token}
+use Rattle.php_ast.specs.Symbol as symbol
 use Rattle.php_ast.specs.Symbol.{Symbol}
 use Rattle.php_ast.specs.statement.Tree.{Jump, returning, breaking, continuing}
 use Rattle.php_grammar.specs.statement.Role.{StatementBeginning, at_block, at_blank, at_inline, at_echo, at_globals, at_statics, at_unset, at_constants, at_jump, at_throw, at_if, at_while, at_do, at_for, at_foreach, at_switch, at_try, at_declare, at_expression, statement_beginning, Behind, by_else, by_elseif, by_while, by_case, by_default, by_brace, by_endif, by_endwhile, by_endfor, by_endforeach, by_endswitch, by_catch, by_finally, by_other, behind, Ending, left_paren, right_paren, left_brace, fixed_colon, fixed_semicolon, fixed_assign}
@@ -80,7 +81,24 @@ fixed_view fixed.Colon = fixed_colon
 fixed_view fixed.Semicolon = fixed_semicolon
 fixed_view fixed.Assign = fixed_assign
 
+abbrev pub is_variable_symbol : Symbol → Bool
+is_variable_symbol (symbol.variable text) = true
+is_variable_symbol _ = false
+
+-- the value of an integer
+abbrev pub int_value : Symbol → Option ℤ
+int_value (symbol.int value) = Some value
+int_value _ = None
+
 -- whether it is this one
 abbrev pub IsEnding : Ending → Ending → Bool → Type 0
 IsEnding x e true = x ≡ e
 IsEnding x e false = x ≢ e
+
+abbrev pub head_int : List Symbol → Option ℤ
+head_int [] = None
+head_int (t ∷ w) = int_value t
+
+abbrev pub ShowsInt : List Token → ℕ → Option ℤ → Type 0
+ShowsInt tokens at None = head_int (rest tokens at) ≡ None
+ShowsInt tokens at (Some value) = Shows int_value tokens at (Some value)

@@ -4,7 +4,10 @@
 mod build;
 mod expression;
 mod look;
+mod names;
 mod read;
 mod role;
+mod simple;
+mod values;
 
 pub use read::ReadStatement;

@@ -8,7 +8,7 @@ ghost use Rattle.php_grammar.specs.statement.Role.{as_word, ending, is_fixed, na
 ghost use Rattle.php_reader.specs.Seen.{Shows, Stands, Tests, rest};
 ghost use Rattle.php_reader.specs.SignView.{closer_view};
 ghost use Rattle.php_parse_statement.specs.Answer.{ShowsName};
-ghost use Rattle.php_parse_statement.specs.RoleView.{StandsBehind, StartsStatement, after_view, begun_view, fixed_view};
+ghost use Rattle.php_parse_statement.specs.RoleView.{StandsBehind, StartsStatement, after_view, begun_view, fixed_view, is_variable_symbol, ShowsInt};
 ghost use Rattle.php_parse_statement.specs.Walk.{head_ending};
 
 use crate::role::{
@@ -16,7 +16,7 @@ use crate::role::{
 };
 use php_ast::Name;
 use php_base::NoMemory;
-use php_lex::Tokens;
+use php_lex::{TokenKind, Tokens};
 use php_reader::look::{ends_with, name_at};
 use php_reader::sign::Closer;
 use std::alloc::Global;
@@ -76,6 +76,29 @@ pub(crate) fn sees_as(tokens: &Tokens, at: usize) -> bool
         return false;
     }
     is_as(tokens.kind(at))
+}
+
+/// Whether a variable stands at a place.
+pub(crate) fn sees_variable(tokens: &Tokens, at: usize) -> bool
+    ensures { Tests is_variable_symbol tokens.now at result }
+{
+    if !stands(tokens, at) {
+        return false;
+    }
+    is_variable(tokens.kind(at))
+}
+
+/// The value of the integer at a place, if one stands there.
+pub(crate) fn int_at(tokens: &Tokens, at: usize) -> Option<i64>
+    ensures { ShowsInt tokens.now at result }
+{
+    if !stands(tokens, at) {
+        return None;
+    }
+    match tokens.kind(at) {
+        TokenKind::Int => Some(tokens.int(at)),
+        _ => None,
+    }
 }
 
 /// The name of the variable at a place, if one stands there. `NoMemory` comes for want of memory.

@@ -1,6 +1,11 @@
 // What the parts of the parser give.
 
-use php_ast::Stmt;
+ghost use Rattle.std.specs.Prelude.{◌≡◌};
+ghost use Rattle.php_reader.specs.declared.fail.Stop.TheVariants.{Syntax};
+
+use php_ast::{Expr, Stmt};
+use php_parse_body::Read;
+use php_reader::Stop;
 use sqlite_items::Items;
 
 /// A statement, and the place behind it.
@@ -22,4 +27,18 @@ pub(crate) struct Listed<T> {
 pub(crate) struct Entry<T> {
     pub(crate) item: T,
     pub(crate) next: usize,
+}
+
+/// An expression is not followed by what must stand behind it.
+pub(crate) fn unclosed(read: Read) -> Stop
+    ensures { result ≡ Syntax read.next }
+{
+    Stop::Syntax(read.next)
+}
+
+/// Lets go of what was read before a failure.
+pub(crate) fn discard(_values: Items<Expr>, stop: Stop) -> Stop
+    ensures { result ≡ stop }
+{
+    stop
 }

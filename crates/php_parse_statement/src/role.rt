@@ -4,7 +4,7 @@ ghost use Rattle.std.specs.Prelude.{◌≡◌, ℕ, ℤ, List};
 ghost use Rattle.php_ast.specs.Symbol.{symbol_of};
 ghost use Rattle.php_grammar.specs.statement.Role.{as_word, behind, behind_keyword, behind_punct, ending, is_fixed, name_text, statement_beginning, statement_keyword, statement_punct, variable_text};
 ghost use Rattle.php_parse_statement.specs.Answer.{text_if};
-ghost use Rattle.php_parse_statement.specs.RoleView.{IsEnding, after_view, begun_view, fixed_view};
+ghost use Rattle.php_parse_statement.specs.RoleView.{IsEnding, after_view, begun_view, fixed_view, is_variable_symbol};
 
 use php_lex::{Keyword, Punct, TokenKind};
 
@@ -185,7 +185,8 @@ pub(crate) fn is_as(kind: TokenKind) -> bool
 
 /// Whether it is a variable.
 pub(crate) fn is_variable(kind: TokenKind) -> bool
-    ensures { (text : List ℕ) (value : ℤ) → variable_text (symbol_of kind text value) ≡ text_if result text }
+    ensures named { (text : List ℕ) (value : ℤ) → variable_text (symbol_of kind text value) ≡ text_if result text }
+    ensures is { (text : List ℕ) (value : ℤ) → is_variable_symbol (symbol_of kind text value) ≡ result }
 {
     matches!(kind, TokenKind::Variable)
 }
