@@ -21,7 +21,7 @@ use Rattle.php_grammar.specs.Run.{if_some}
 use Rattle.php_grammar.specs.TooDeep.{depth_inside}
 use Rattle.php_grammar.specs.expression.Role.{comma, semicolon}
 use Rattle.php_grammar.specs.expression.Machine.{Nothing, Form, State, expects, past_static, advance, pick}
-use Rattle.php_grammar.specs.statement.Role.{at_statics, statement_beginning, statement_keyword, statement_punct, Ending, closer, ending, is_assign, right_paren}
+use Rattle.php_grammar.specs.statement.Role.{at_statics, at_declare, statement_beginning, statement_keyword, statement_punct, Ending, closer, ending, left_paren, right_paren, fixed_semicolon, is_fixed, is_assign, name_text, variable_text}
 use Rattle.php_grammar.specs.statement.Forms.{Around, as_line, as_static, as_constant, Names, of_globals, of_statics, of_constants, of_declare, StatementState, due_statement, done, due, due_name, past_name, due_int, past_static_word, in_expression}
 use Rattle.php_grammar.specs.statement.Machine.{begun, expected, filled, name_in, name_step, named_here, static_step, int_step, expression_step, before_semicolon, advance_statement}
 use Rattle.php_grammar.specs.statement.Depth.{statement_depth, begun_depth, names_depth, statement_depth_at}
@@ -31,7 +31,8 @@ use Rattle.php_parse_statement.specs.RoleView.{is_variable_symbol, int_value, he
 use Rattle.php_parse_statement.specs.Answer.{SpansStatement, head_text}
 use Rattle.php_parse_statement.specs.NameAnswer.{SpansSoFar, variable_step, walk_variable}
 use Rattle.php_parse_statement.specs.Walk.{short, outcome, stepped, walk_statement, walk_behind, Leads, Halts, head_ending}
-use Rattle.php_parse_statement.proofs.Moves.{moves, sticks, alike, move, sink, leads}
+use Rattle.php_parse_statement.proofs.Moves.{moves, sticks, alike, move, sink, leads, due_outside, due_inside}
+use Rattle.php_parse_statement.proofs.Plain.{begins}
 use Rattle.php_parse_statement.proofs.Inside.{place_lacks}
 
 -- ---- lists that grow
@@ -298,3 +299,41 @@ declare_spans tokens made spot shown a value at is noted_is same = record {
   shown = is ∙ ap (λ n. declares n shown value) noted_is ∙ ap (λ n. declares ((notes_of tokens).token at) n value) (same ∙ ap (λ k. noted_name (notes_of tokens) k a) (omega arith));
   sized = omega arith;
 }
+
+-- ---- what opens in front of a value
+
+pub constant_opens : {room : ℕ} {x y w : List Symbol} (xs : Sequence (Constant Nothing)) (text : List ℕ) (t u : Symbol) → x ≡ t ∷ y → name_text t ≡ Some text → y ≡ u ∷ w → is_assign u ≡ true → 1 ≤ room
+    → Leads statement_depth room (λ o. due_name (of_constants xs) o) x (λ o. expected (as_constant xs (named_here text)) o) w
+constant_opens xs text t u is named more assigns roomy =
+    leads (λ o. past_name (of_constants xs) (named_here text) o) (name_reads (of_constants xs) text t is named (λ d. omega arith)) (constant_assigned xs (named_here text) u more assigns roomy)
+
+pub variable_opens : {room : ℕ} {x y w : List Symbol} (xs : Sequence (Variable Nothing)) (text : List ℕ) (t u : Symbol) → x ≡ t ∷ y → variable_text t ≡ Some text → y ≡ u ∷ w → is_assign u ≡ true → 1 ≤ room
+    → Leads statement_depth room (λ o. due_name (of_statics xs) o) x (λ o. expected (as_static xs (named_here text)) o) w
+variable_opens xs text t u is named more assigns roomy =
+    leads (λ o. past_name (of_statics xs) (named_here text) o) (name_reads (of_statics xs) text t is named (λ d. omega arith)) (variable_assigned xs (named_here text) u more assigns roomy)
+
+pub constant_shown : (tokens : List Token) (at : ℕ) (shown : Name Note) (e : Tree Note) (a : Name Nothing) (form : Form) → shown ≡ noted_name (notes_of tokens) at a → e ≡ noted (notes_of tokens) (at + 1 + 1) form
+    → record { name = shown; value = e } ≡ noted_constant (notes_of tokens) at (record { name = a; value = form })
+constant_shown tokens at shown e a form named is =
+    ap (λ z. record { name = z; value = e }) named ∙ ap (λ z. record { name = noted_name (notes_of tokens) at a; value = z }) (is ∙ ap (λ k. noted (notes_of tokens) k form) (omega arith))
+
+pub variable_shown : (tokens : List Token) (at : ℕ) (shown : Name Note) (e : Tree Note) (a : Name Nothing) (form : Form) → shown ≡ noted_name (notes_of tokens) at a → e ≡ noted (notes_of tokens) (at + 1 + 1) form
+    → record { name = shown; value = Some e } ≡ noted_variable (notes_of tokens) at (variable_of a (Some form))
+variable_shown tokens at shown e a form named is =
+    ap (λ z. record { name = z; value = Some e }) named ∙ ap (λ z. record { name = noted_name (notes_of tokens) at a; value = Some z }) (is ∙ ap (λ k. noted (notes_of tokens) k form) (omega arith))
+
+pub bare_shown : (tokens : List Token) (at : ℕ) (shown : Name Note) (a : Name Nothing) → shown ≡ noted_name (notes_of tokens) at a
+    → record { name = shown; value = None } ≡ noted_variable (notes_of tokens) at (variable_of a None)
+bare_shown tokens at shown a named = ap (λ z. record { name = z; value = None }) named
+
+-- ---- the parts of a `declare`
+
+pub declare_opens : {room : ℕ} {x y w : List Symbol} (t u : Symbol) → x ≡ t ∷ y → statement_beginning t ≡ at_declare → y ≡ u ∷ w → is_fixed left_paren u ≡ true → 1 ≤ room
+    → Leads statement_depth room (λ o. due_statement o) x (λ o. due_name of_declare o) w
+declare_opens t u is begin more paren roomy =
+    leads (λ o. due (left_paren ∷ []) (due_name of_declare o)) (begins at_declare t is begin (λ o. refl) (λ o. refl) roomy) (due_outside left_paren [] (λ o. due_name of_declare o) u more paren (λ o. refl) (λ d. refl) roomy)
+
+pub declare_named : {room : ℕ} {x y z w : List Symbol} (t u v : Symbol) (text : List ℕ) → x ≡ t ∷ y → statement_beginning t ≡ at_declare → y ≡ u ∷ z → is_fixed left_paren u ≡ true → z ≡ v ∷ w → name_text v ≡ Some text → 2 ≤ room
+    → Leads statement_depth room (λ o. due_statement o) x (λ o. past_name of_declare (named_here text) o) w
+declare_named t u v text is begin more paren behind named roomy =
+    leads (λ o. due_name of_declare o) (declare_opens t u is begin more paren (omega arith)) (name_reads of_declare text v behind named (λ d. omega arith))

@@ -8,6 +8,7 @@ use Rattle.php_grammar.specs.statement.Role.{StatementBeginning, at_block, at_bl
 use Rattle.php_grammar.specs.statement.Role as role
 use Rattle.php_grammar.specs.statement.Laws.{head_behind}
 use Rattle.php_reader.specs.Seen.{rest, Shows}
+use Rattle.php_parse_statement.specs.declared.read.Number.{Number}
 use Rattle.php_parse_statement.specs.declared.role.JumpKind.{JumpKind}
 use Rattle.php_parse_statement.specs.declared.role.JumpKind.TheVariants as jump_kind
 use Rattle.php_parse_statement.specs.declared.role.Begun.{Begun}
@@ -99,6 +100,6 @@ abbrev pub head_int : List Symbol → Option ℤ
 head_int [] = None
 head_int (t ∷ w) = int_value t
 
-abbrev pub ShowsInt : List Token → ℕ → Option ℤ → Type 0
+abbrev pub ShowsInt : List Token → ℕ → Option Number → Type 0
 ShowsInt tokens at None = head_int (rest tokens at) ≡ None
-ShowsInt tokens at (Some value) = Shows int_value tokens at (Some value)
+ShowsInt tokens at (Some n) = Shows int_value tokens at (Some n.value)

@@ -8,6 +8,7 @@ ghost use Rattle.php_ast.specs.statement.View.{statement_view, statements_view};
 ghost use Rattle.php_parse_statement.specs.RoleView.{jump_view};
 ghost use Rattle.php_parse_statement.specs.Parts as part;
 
+use crate::read::Number;
 use crate::role::JumpKind;
 use php_ast::{
     Body, Case, Catch, ConstantItem, ElseIf, Expr, ForHead, ForeachHead, Name, Spot, Stmt,
@@ -181,8 +182,8 @@ pub(crate) fn try_statement(
 }
 
 /// `declare(name = int);`
-pub(crate) fn declare_statement(spot: Spot, name: Name, value: i64) -> Stmt
-    ensures { statement_view result ≡ tree.declares (spot_view spot) (shown.name_view name) value }
+pub(crate) fn declare_statement(spot: Spot, name: Name, number: Number) -> Stmt
+    ensures { statement_view result ≡ tree.declares (spot_view spot) (shown.name_view name) number.value }
 {
-    Stmt::Declare(spot, name, value)
+    Stmt::Declare(spot, name, number.value)
 }

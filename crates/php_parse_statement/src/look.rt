@@ -11,6 +11,7 @@ ghost use Rattle.php_parse_statement.specs.Answer.{ShowsName};
 ghost use Rattle.php_parse_statement.specs.RoleView.{StandsBehind, StartsStatement, after_view, begun_view, fixed_view, is_variable_symbol, ShowsInt};
 ghost use Rattle.php_parse_statement.specs.Walk.{head_ending};
 
+use crate::read::Number;
 use crate::role::{
     After, Begun, Fixed, after_by, begun_by, is_as, is_fixed, is_name, is_variable,
 };
@@ -89,14 +90,16 @@ pub(crate) fn sees_variable(tokens: &Tokens, at: usize) -> bool
 }
 
 /// The value of the integer at a place, if one stands there.
-pub(crate) fn int_at(tokens: &Tokens, at: usize) -> Option<i64>
+pub(crate) fn int_at(tokens: &Tokens, at: usize) -> Option<Number>
     ensures { ShowsInt tokens.now at result }
 {
     if !stands(tokens, at) {
         return None;
     }
     match tokens.kind(at) {
-        TokenKind::Int => Some(tokens.int(at)),
+        TokenKind::Int => Some(Number {
+            value: tokens.int(at),
+        }),
         _ => None,
     }
 }

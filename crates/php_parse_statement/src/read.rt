@@ -29,6 +29,12 @@ pub(crate) struct Entry<T> {
     pub(crate) next: usize,
 }
 
+/// The value of a token.
+#[derive(Clone, Copy)]
+pub(crate) struct Number {
+    pub(crate) value: i64,
+}
+
 /// An expression is not followed by what must stand behind it.
 pub(crate) fn unclosed(read: Read) -> Stop
     ensures { result ≡ Syntax read.next }
