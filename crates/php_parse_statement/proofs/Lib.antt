@@ -5,3 +5,5 @@ pub mod Sees
 pub mod Fails
 pub mod Plain
 pub mod Named
+pub mod Lists
+pub mod Looping

@@ -1,5 +1,6 @@
 -- What the functions of the parser answer.
-use Rattle.std.specs.Prelude.{◌≡◌, ◌≢◌, ◌≤◌, ◌<◌, ℕ, suc, ◌+◌, Bool, true, false, Option, Some, None, Result, Ok, Err, List, [], ◌∷◌, map, length}
+use Rattle.std.specs.Prelude.{◌≡◌, ◌≢◌, ◌≤◌, ◌<◌, ℕ, suc, ◌+◌, ◌-◌, Bool, true, false, Option, Some, None, Result, Ok, Err, List, [], ◌∷◌, map, length}
+use denote.Ref.{Bor}
 use Rattle.php_token.specs.Token.{Token}
 use Rattle.php_ast.specs.declared.expression.Expr.{Expr}
 use Rattle.php_ast.specs.declared.spot.Name as rust_name
@@ -81,9 +82,12 @@ pub record FoundStatement (depth : Around → ℕ) (room : ℕ) (tokens : List T
   pub ahead : at < r.next
   pub within : r.next ≤ length tokens
 
+abbrev pub AnswersIn : (Around → ℕ) → ℕ → List Token → ℕ → Result ReadStatement Stop → Type 0
+AnswersIn depth room tokens at (Ok r) = FoundStatement depth room tokens at r
+AnswersIn depth room tokens at (Err e) = Fails depth room (λ o. due_statement o) (rest tokens at) tokens at e
+
 abbrev pub AnswersBy : (Around → ℕ) → Reader → ℕ → Result ReadStatement Stop → Type 0
-AnswersBy depth reader at (Ok r) = FoundStatement depth reader.room reader.tokens.now at r
-AnswersBy depth reader at (Err e) = Fails depth reader.room (λ o. due_statement o) (rest reader.tokens.now at) reader.tokens.now at e
+AnswersBy depth reader at r = AnswersIn depth reader.room reader.tokens.now at r
 
 -- one that is no block
 abbrev pub AnswersForm : Reader → ℕ → Result ReadStatement Stop → Type 0
@@ -92,6 +96,15 @@ AnswersForm reader at r = AnswersBy statement_depth reader at r
 -- any one
 abbrev pub AnswersStatement : Reader → ℕ → Result ReadStatement Stop → Type 0
 AnswersStatement reader at r = AnswersBy (depth_before (rest reader.tokens.now at)) reader at r
+
+-- one level deeper
+abbrev pub AnswersInside : Reader → ℕ → Result ReadStatement Stop → Type 0
+AnswersInside reader at r = AnswersIn (depth_before (rest reader.tokens.now at)) (reader.room - 1) reader.tokens.now at r
+
+-- What reads statements with less than so many levels of nesting left.
+pub record Nests (bound : ℕ) (allows : Bor Reader → ℕ → Type 0) (gives : Bor Reader → ℕ → Result ReadStatement Stop → Type 0) : Type 0 where
+  pub callable : (reader : Bor Reader) (at : ℕ) → at ≤ length reader.now.tokens.now → reader.now.room < bound → allows reader at
+  pub reads : (reader : Bor Reader) (at : ℕ) (r : Result ReadStatement Stop) → gives reader at r → AnswersStatement reader.now at r
 
 -- where a statement is due, an expression is
 abbrev pub IsLine : Reader → ℕ → Type 0

@@ -3,3 +3,5 @@ pub mod RoleView
 pub mod Parts
 pub mod Answer
 pub mod NameAnswer
+pub mod ListAnswer
+pub mod FormAnswer

@@ -74,6 +74,12 @@ abbrev pub StandsBehind : List Token → ℕ → Behind → Type 0
 StandsBehind tokens at by_other = head_behind (rest tokens at) ≡ by_other
 StandsBehind tokens at x = Shows behind tokens at x
 
+-- whether a symbol ends a list of statements, and so begins none of it
+abbrev pub ends_list : Behind → Bool
+ends_list by_while = false
+ends_list by_other = false
+ends_list _ = true
+
 abbrev pub fixed_view : Fixed → role.Fixed
 fixed_view fixed.LeftParen = left_paren
 fixed_view fixed.RightParen = right_paren

@@ -4,16 +4,18 @@ ghost use Rattle.std.specs.Prelude.{◌≡◌, ◌≢◌, ◌<◌, true, false, 
 ghost use Rattle.php_token.specs.Token.{token_at};
 ghost use Rattle.php_ast.specs.Symbol.{symbol};
 ghost use Rattle.php_grammar.specs.statement.Role as role;
-ghost use Rattle.php_grammar.specs.statement.Role.{as_word, ending, is_fixed, name_text, variable_text};
+ghost use Rattle.php_grammar.specs.statement.Role.{as_word, behind, ending, is_fixed, name_text, variable_text};
+ghost use Rattle.php_grammar.specs.statement.Laws.{head_behind};
+ghost use Rattle.php_parse_statement.specs.declared.role.After.TheVariants.{Other};
 ghost use Rattle.php_reader.specs.Seen.{Shows, Stands, Tests, rest};
 ghost use Rattle.php_reader.specs.SignView.{closer_view};
 ghost use Rattle.php_parse_statement.specs.Answer.{ShowsName};
-ghost use Rattle.php_parse_statement.specs.RoleView.{StandsBehind, StartsStatement, after_view, begun_view, fixed_view, is_variable_symbol, ShowsInt};
+ghost use Rattle.php_parse_statement.specs.RoleView.{StandsBehind, StartsStatement, after_view, begun_view, fixed_view, is_variable_symbol, ShowsInt, ends_list};
 ghost use Rattle.php_parse_statement.specs.Walk.{head_ending};
 
 use crate::read::Number;
 use crate::role::{
-    After, Begun, Fixed, after_by, begun_by, is_as, is_fixed, is_name, is_variable,
+    After, Begun, Fixed, after_by, begun_by, ends_list, is_as, is_fixed, is_name, is_variable,
 };
 use php_ast::Name;
 use php_base::NoMemory;
@@ -48,6 +50,22 @@ pub(crate) fn after_at(tokens: &Tokens, at: usize) -> After
         return After::Other;
     }
     after_by(tokens.kind(at))
+}
+
+/// Whether a token stands at a place that ends a list of statements.
+pub(crate) fn list_ends(tokens: &Tokens, at: usize) -> bool
+    ensures { result ≡ ends_list (head_behind (rest tokens.now at)) }
+{
+    ends_list(after_at(tokens, at))
+}
+
+/// Whether a token stands at a place that does this behind a statement.
+pub(crate) fn sees_after(tokens: &Tokens, at: usize, wanted: After) -> bool
+    requires { wanted ≢ Other }
+    ensures yes { result ≡ true → Shows behind tokens.now at (after_view wanted) }
+    ensures no { result ≡ false → head_behind (rest tokens.now at) ≢ after_view wanted }
+{
+    after_at(tokens, at) == wanted
 }
 
 /// Whether this token stands at a place.

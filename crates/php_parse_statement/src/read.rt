@@ -3,7 +3,7 @@
 ghost use Rattle.std.specs.Prelude.{◌≡◌};
 ghost use Rattle.php_reader.specs.declared.fail.Stop.TheVariants.{Syntax};
 
-use php_ast::{Expr, Stmt};
+use php_ast::{ElseIf, Expr, Stmt};
 use php_parse_body::Read;
 use php_reader::Stop;
 use sqlite_items::Items;
@@ -29,6 +29,15 @@ pub(crate) struct Entry<T> {
     pub(crate) next: usize,
 }
 
+/// The bodies of an `if`: the first one, those of its `elseif` parts, that of its `else`; and the place behind them.
+#[derive(Drop)]
+pub(crate) struct Branches<B> {
+    pub(crate) body: B,
+    pub(crate) parts: Items<ElseIf<B>>,
+    pub(crate) last: Option<B>,
+    pub(crate) next: usize,
+}
+
 /// The value of a token.
 #[derive(Clone, Copy)]
 pub(crate) struct Number {
@@ -44,6 +53,13 @@ pub(crate) fn unclosed(read: Read) -> Stop
 
 /// Lets go of what was read before a failure.
 pub(crate) fn discard(_values: Items<Expr>, stop: Stop) -> Stop
+    ensures { result ≡ stop }
+{
+    stop
+}
+
+/// Likewise of statements.
+pub(crate) fn forget(_statements: Items<Stmt>, stop: Stop) -> Stop
     ensures { result ≡ stop }
 {
     stop

@@ -4,7 +4,7 @@ ghost use Rattle.std.specs.Prelude.{◌≡◌, ℕ, ℤ, List};
 ghost use Rattle.php_ast.specs.Symbol.{symbol_of};
 ghost use Rattle.php_grammar.specs.statement.Role.{as_word, behind, behind_keyword, behind_punct, ending, is_fixed, name_text, statement_beginning, statement_keyword, statement_punct, variable_text};
 ghost use Rattle.php_parse_statement.specs.Answer.{text_if};
-ghost use Rattle.php_parse_statement.specs.RoleView.{IsEnding, after_view, begun_view, fixed_view, is_variable_symbol};
+ghost use Rattle.php_parse_statement.specs.RoleView.{IsEnding, after_view, begun_view, ends_list, fixed_view, is_variable_symbol};
 
 use php_lex::{Keyword, Punct, TokenKind};
 
@@ -45,7 +45,7 @@ pub enum Begun {
 }
 
 /// What a token does behind a statement: it goes on with what is around it, or ends the list in which it stands.
-#[derive(Clone, Copy)]
+#[derive(Clone, Copy, PartialEq, Eq)]
 pub enum After {
     Else,
     ElseIf,
@@ -159,6 +159,16 @@ pub(crate) fn after_by(kind: TokenKind) -> After
         TokenKind::Keyword(keyword) => after_by_keyword(keyword),
         TokenKind::Punct(punct) => after_by_punct(punct),
         _ => After::Other,
+    }
+}
+
+/// Whether it ends a list of statements.
+pub(crate) fn ends_list(after: After) -> bool
+    ensures { result ≡ ends_list (after_view after) }
+{
+    match after {
+        After::While | After::Other => false,
+        _ => true,
     }
 }
 
