@@ -2,6 +2,5 @@ pub mod Symbol
 pub mod Operators
 pub mod expression
 pub mod Power
-pub mod PowerView
 pub mod statement
 pub mod declaration

@@ -1,66 +1,62 @@
 -- The table of powers: how tightly each operator binds. A higher power binds tighter. The powers are
 -- even, but for those of `print` and `yield`, between which no other operator stands; so there is room for
 -- the least power above one.
-use Rattle.std.specs.Prelude.{ℕ}
+use Rattle.std.specs.Prelude.{ℕ, Bool, true, false}
 use Rattle.php_ast.specs.declared.operator.Binary.{Binary}
 use Rattle.php_ast.specs.declared.operator.Binary.TheVariants as binary
 use Rattle.php_ast.specs.declared.operator.Prefix.{Prefix}
 use Rattle.php_ast.specs.declared.operator.Prefix.TheVariants as prefix
-
--- How operators of one power stand side by side: `a - b - c` is `(a - b) - c`, `a ?? b ?? c` is
--- `a ?? (b ?? c)`, and `a < b < c` is no expression.
-pub data Grouping : Type 0 where
-  to_left : Grouping
-  to_right : Grouping
-  ungrouped : Grouping
-
-pub record Row : Type 0 where
-  pub power : ℕ
-  pub grouping : Grouping
+use Rattle.php_ast.specs.declared.power.Grouping.{Grouping}
+use Rattle.php_ast.specs.declared.power.Grouping.TheVariants.{ToLeft, ToRight, Ungrouped}
+use Rattle.php_ast.specs.declared.power.Row.{Row}
 
 abbrev pub row : ℕ → Grouping → Row
 row power grouping = record { power = power; grouping = grouping }
 
+abbrev pub is_left : Grouping → Bool
+is_left ToLeft = true
+is_left _ = false
+
 abbrev pub binary_row : Binary → Row
-binary_row binary.Power = row 40 to_right
-binary_row binary.Times = row 32 to_left
-binary_row binary.Divided = row 32 to_left
-binary_row binary.Remainder = row 32 to_left
-binary_row binary.Plus = row 30 to_left
-binary_row binary.Minus = row 30 to_left
-binary_row binary.Concatenated = row 30 to_left
-binary_row binary.ShiftedLeft = row 28 to_left
-binary_row binary.ShiftedRight = row 28 to_left
-binary_row binary.Less = row 26 ungrouped
-binary_row binary.LessEqual = row 26 ungrouped
-binary_row binary.Greater = row 26 ungrouped
-binary_row binary.GreaterEqual = row 26 ungrouped
-binary_row binary.Equal = row 24 ungrouped
-binary_row binary.NotEqual = row 24 ungrouped
-binary_row binary.LessGreater = row 24 ungrouped
-binary_row binary.Identical = row 24 ungrouped
-binary_row binary.NotIdentical = row 24 ungrouped
-binary_row binary.Compared = row 24 ungrouped
-binary_row binary.BitAnd = row 22 to_left
-binary_row binary.BitXor = row 20 to_left
-binary_row binary.BitOr = row 18 to_left
-binary_row binary.LogicalAnd = row 16 to_left
-binary_row binary.LogicalOr = row 14 to_left
-binary_row binary.Coalesced = row 12 to_right
-binary_row binary.WordAnd = row 6 to_left
-binary_row binary.WordXor = row 4 to_left
-binary_row binary.WordOr = row 2 to_left
+binary_row binary.Power = row 40 ToRight
+binary_row binary.Times = row 32 ToLeft
+binary_row binary.Divided = row 32 ToLeft
+binary_row binary.Remainder = row 32 ToLeft
+binary_row binary.Plus = row 30 ToLeft
+binary_row binary.Minus = row 30 ToLeft
+binary_row binary.Concatenated = row 30 ToLeft
+binary_row binary.ShiftedLeft = row 28 ToLeft
+binary_row binary.ShiftedRight = row 28 ToLeft
+binary_row binary.Less = row 26 Ungrouped
+binary_row binary.LessEqual = row 26 Ungrouped
+binary_row binary.Greater = row 26 Ungrouped
+binary_row binary.GreaterEqual = row 26 Ungrouped
+binary_row binary.Equal = row 24 Ungrouped
+binary_row binary.NotEqual = row 24 Ungrouped
+binary_row binary.LessGreater = row 24 Ungrouped
+binary_row binary.Identical = row 24 Ungrouped
+binary_row binary.NotIdentical = row 24 Ungrouped
+binary_row binary.Compared = row 24 Ungrouped
+binary_row binary.BitAnd = row 22 ToLeft
+binary_row binary.BitXor = row 20 ToLeft
+binary_row binary.BitOr = row 18 ToLeft
+binary_row binary.LogicalAnd = row 16 ToLeft
+binary_row binary.LogicalOr = row 14 ToLeft
+binary_row binary.Coalesced = row 12 ToRight
+binary_row binary.WordAnd = row 6 ToLeft
+binary_row binary.WordXor = row 4 ToLeft
+binary_row binary.WordOr = row 2 ToLeft
 
 -- `? :` and `?:`
 abbrev pub choice_row : Row
-choice_row = row 10 to_left
+choice_row = row 10 ToLeft
 
 abbrev pub instance_of_row : Row
-instance_of_row = row 36 ungrouped
+instance_of_row = row 36 Ungrouped
 
 -- `=` and the operators with `=`
 abbrev pub assign_row : Row
-assign_row = row 8 to_right
+assign_row = row 8 ToRight
 
 -- the power of `yield` with a value
 abbrev pub yield_power : ℕ

@@ -2,7 +2,6 @@
 
 ghost use Rattle.std.specs.Prelude.{◌≡◌};
 ghost use Rattle.php_ast.specs.Power.{assign_row, binary_row, choice_row, instance_of_row, prefix_power, yield_power};
-ghost use Rattle.php_ast.specs.PowerView.{row_view};
 
 use crate::operator::{Binary, Prefix};
 
@@ -26,7 +25,7 @@ pub struct Row {
 
 /// The row of an operator between two operands.
 pub fn row_of(op: Binary) -> Row
-    ensures { row_view result ≡ binary_row op }
+    ensures { result ≡ binary_row op }
 {
     match op {
         Binary::Power => to_right(40),
@@ -54,21 +53,21 @@ pub fn row_of(op: Binary) -> Row
 
 /// The row of `? :` and `?:`.
 pub fn row_of_choice() -> Row
-    ensures { row_view result ≡ choice_row }
+    ensures { result ≡ choice_row }
 {
     to_left(10)
 }
 
 /// The row of `instanceof`.
 pub fn row_of_instance_of() -> Row
-    ensures { row_view result ≡ instance_of_row }
+    ensures { result ≡ instance_of_row }
 {
     ungrouped(36)
 }
 
 /// The row of `=` and the operators with `=`.
 pub fn row_of_assignment() -> Row
-    ensures { row_view result ≡ assign_row }
+    ensures { result ≡ assign_row }
 {
     to_right(8)
 }

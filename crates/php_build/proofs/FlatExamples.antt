@@ -10,8 +10,8 @@ use Rattle.php_ast.specs.declared.expression.Expr.TheOpen.{Expr-F}
 use Rattle.php_ast.specs.declared.expression.Expr.TheFolds.{fold-roll-Expr}
 use Rattle.php_ast.specs.declared.expression.Suffix.TheVariants.{Append, Index}
 use Rattle.php_ast.specs.declared.expression.Link.TheVariants.{Operator, Choice, ShortChoice}
-use Rattle.php_ast.specs.Power.{binary_row}
-use Rattle.php_build.specs.Flat.{Shape, shape, shape_step, apart, is_left, chain_shape, run_shape, is_flat}
+use Rattle.php_ast.specs.Power.{is_left, binary_row}
+use Rattle.php_build.specs.Flat.{Shape, shape, shape_step, apart, chain_shape, run_shape, is_flat}
 use Rattle.php_build.proofs.Flats.{shape_chain, shape_run}
 
 -- ---- the shapes of some nodes

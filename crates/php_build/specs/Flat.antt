@@ -20,7 +20,8 @@ use Rattle.php_ast.specs.declared.expression.ClassStep.{ClassStep}
 use Rattle.php_ast.specs.declared.expression.ClassStep.TheVariants as class_step
 use Rattle.php_ast.specs.declared.expression.Link.{Link}
 use Rattle.php_ast.specs.declared.expression.Link.TheVariants as link
-use Rattle.php_ast.specs.Power.{Grouping, to_left, Row, binary_row, choice_row}
+use Rattle.php_ast.specs.declared.power.Row.{Row}
+use Rattle.php_ast.specs.Power.{is_left, binary_row, choice_row}
 use Rattle.php_ast.specs.expression.Parts.{piece_with, item_with, argument_with, suffix_with, step_with, class_with, link_with}
 
 -- ---- what is known of a part
@@ -91,10 +92,6 @@ abbrev pub link_row : {A : Type 0} → Link A → Row
 link_row (link.Operator op e) = binary_row op
 link_row (link.Choice a b) = choice_row
 link_row (link.ShortChoice b) = choice_row
-
-abbrev pub is_left : Grouping → Bool
-is_left to_left = true
-is_left _ = false
 
 -- a link of flat parts, whose operator groups to the left
 abbrev pub link_flat : Link Shape → Bool

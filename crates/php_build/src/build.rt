@@ -1,12 +1,12 @@
 // Trees of expressions from their parts. Each function that answers an error does so for want of memory.
 
 ghost use Rattle.std.specs.Prelude.{◌≡◌, true, false, map, IfOk};
-ghost use Rattle.php_ast.specs.Power.{binary_row};
+ghost use Rattle.php_ast.specs.Power.{is_left, binary_row};
 ghost use Rattle.php_ast.specs.expression.Tree as tree;
 ghost use Rattle.php_ast.specs.expression.View as shown;
 ghost use Rattle.php_ast.specs.expression.View.{view, spot_view};
-ghost use Rattle.php_build.specs.Parts as part;
-ghost use Rattle.php_build.specs.Flat.{are_flat, are_flat_arguments, are_flat_items, are_flat_pieces, are_flat_suffixes, is_flat, is_flat_class, is_flat_leaf, is_flat_link, is_flat_run, is_flat_suffix, is_left, is_run, link_row, starts_run};
+ghost use Rattle.php_ast.specs.expression.Parts.{argument_with, class_with, item_with, link_with, piece_with, suffix_with};
+ghost use Rattle.php_build.specs.Flat.{are_flat, are_flat_arguments, are_flat_items, are_flat_pieces, are_flat_suffixes, is_flat, is_flat_class, is_flat_leaf, is_flat_link, is_flat_run, is_flat_suffix, is_run, link_row, starts_run};
 
 use php_ast::{
     Argument, ArrayForm, Assign, Binary, Class, Count, Expr, Grouping, Item, Link, Member, Named,
@@ -16,7 +16,7 @@ use sqlite_items::{Boxed, Items};
 use std::alloc::{AllocError, Global};
 
 /// `( .. )`.
-pub fn grouped(alloc: Global, spot: Spot, inside: Expr) -> Result<Expr, AllocError>
+pub fn group_expr(alloc: Global, spot: Spot, inside: Expr) -> Result<Expr, AllocError>
     requires { is_flat inside ≡ true }
     ensures shown { IfOk result (λ e. view e ≡ tree.enclosed (spot_view spot) tree.parentheses (view inside)) }
     ensures flat { IfOk result (λ e. is_flat_leaf e ≡ true) }
@@ -25,7 +25,7 @@ pub fn grouped(alloc: Global, spot: Spot, inside: Expr) -> Result<Expr, AllocErr
 }
 
 /// `empty( .. )`.
-pub fn emptied(alloc: Global, spot: Spot, inside: Expr) -> Result<Expr, AllocError>
+pub fn empty_expr(alloc: Global, spot: Spot, inside: Expr) -> Result<Expr, AllocError>
     requires { is_flat inside ≡ true }
     ensures shown { IfOk result (λ e. view e ≡ tree.enclosed (spot_view spot) tree.emptiness (view inside)) }
     ensures flat { IfOk result (λ e. is_flat_leaf e ≡ true) }
@@ -34,7 +34,7 @@ pub fn emptied(alloc: Global, spot: Spot, inside: Expr) -> Result<Expr, AllocErr
 }
 
 /// `exit( .. )`.
-pub fn exited(alloc: Global, spot: Spot, inside: Expr) -> Result<Expr, AllocError>
+pub fn exit_with_expr(alloc: Global, spot: Spot, inside: Expr) -> Result<Expr, AllocError>
     requires { is_flat inside ≡ true }
     ensures shown { IfOk result (λ e. view e ≡ tree.enclosed (spot_view spot) tree.exiting (view inside)) }
     ensures flat { IfOk result (λ e. is_flat_leaf e ≡ true) }
@@ -43,7 +43,7 @@ pub fn exited(alloc: Global, spot: Spot, inside: Expr) -> Result<Expr, AllocErro
 }
 
 /// `exit`.
-pub fn bare_exit(spot: Spot) -> Expr
+pub fn exit_expr(spot: Spot) -> Expr
     ensures shown { view result ≡ tree.exit (spot_view spot) }
     ensures flat { is_flat_leaf result ≡ true }
 {
@@ -51,7 +51,7 @@ pub fn bare_exit(spot: Spot) -> Expr
 }
 
 /// `exit()`.
-pub fn empty_exit(spot: Spot) -> Expr
+pub fn exit_empty_expr(spot: Spot) -> Expr
     ensures shown { view result ≡ tree.exit_empty (spot_view spot) }
     ensures flat { is_flat_leaf result ≡ true }
 {
@@ -59,7 +59,7 @@ pub fn empty_exit(spot: Spot) -> Expr
 }
 
 /// `static :: name`.
-pub fn of_static(alloc: Global, spot: Spot, member: Member) -> Result<Expr, AllocError>
+pub fn static_member_expr(alloc: Global, spot: Spot, member: Member) -> Result<Expr, AllocError>
     ensures shown { IfOk result (λ e. view e ≡ tree.static_member (spot_view spot) (shown.member_view member)) }
     ensures flat { IfOk result (λ e. is_flat_leaf e ≡ true) }
 {
@@ -67,7 +67,7 @@ pub fn of_static(alloc: Global, spot: Spot, member: Member) -> Result<Expr, Allo
 }
 
 /// `yield` alone.
-pub fn yielded_nothing(spot: Spot) -> Expr
+pub fn yield_nothing_expr(spot: Spot) -> Expr
     ensures shown { view result ≡ tree.yield_nothing (spot_view spot) }
     ensures flat { is_flat result ≡ true }
 {
@@ -75,16 +75,16 @@ pub fn yielded_nothing(spot: Spot) -> Expr
 }
 
 /// An array or a list.
-pub fn listed(spot: Spot, form: ArrayForm, items: Items<Item<Expr>>) -> Expr
+pub fn array_expr(spot: Spot, form: ArrayForm, items: Items<Item<Expr>>) -> Expr
     requires { are_flat_items items ≡ true }
-    ensures shown { view result ≡ tree.listed (spot_view spot) (tree.array form) (shown.items_from tree.none (map part.item_parts items)) }
+    ensures shown { view result ≡ tree.listed (spot_view spot) (tree.array form) (shown.items_from tree.none (map (item_with view) items)) }
     ensures flat { is_flat_leaf result ≡ true }
 {
     Expr::Array(spot, form, items)
 }
 
 /// `isset( .. )`.
-pub fn tested(spot: Spot, values: Items<Expr>) -> Expr
+pub fn is_set_expr(spot: Spot, values: Items<Expr>) -> Expr
     requires { are_flat values ≡ true }
     ensures shown { view result ≡ tree.listed (spot_view spot) tree.is_set (shown.values_from tree.none (map view values)) }
     ensures flat { is_flat_leaf result ≡ true }
@@ -93,17 +93,17 @@ pub fn tested(spot: Spot, values: Items<Expr>) -> Expr
 }
 
 /// A text with parts.
-pub fn templated(spot: Spot, pieces: Items<Piece<Expr>>) -> Expr
+pub fn template_expr(spot: Spot, pieces: Items<Piece<Expr>>) -> Expr
     requires { are_flat_pieces pieces ≡ true }
-    ensures shown { view result ≡ tree.template (spot_view spot) (shown.pieces_from tree.no_piece (map part.piece_parts pieces)) }
+    ensures shown { view result ≡ tree.template (spot_view spot) (shown.pieces_from tree.no_piece (map (piece_with view) pieces)) }
     ensures flat { is_flat_leaf result ≡ true }
 {
     Expr::Template(spot, pieces)
 }
 
 /// The suffix `-> name`.
-pub fn property_of(member: Member) -> Suffix<Expr>
-    ensures shown { (e : tree.Tree shown.Note) → shown.with_suffix e (part.suffix_parts result) ≡ tree.selected e tree.thin (shown.member_view member) }
+pub fn property_suffix(member: Member) -> Suffix<Expr>
+    ensures shown { (e : tree.Tree shown.Note) → shown.with_suffix e (suffix_with view result) ≡ tree.selected e tree.thin (shown.member_view member) }
     ensures flat { is_flat_suffix result ≡ true }
 {
     match member {
@@ -113,14 +113,14 @@ pub fn property_of(member: Member) -> Suffix<Expr>
 }
 
 /// An operand with its suffixes.
-pub fn chained(
+pub fn chain_expr(
     alloc: Global,
     first: Expr,
     suffixes: Items<Suffix<Expr>>,
 ) -> Result<Expr, AllocError>
     requires first { is_flat_leaf first ≡ true }
     requires suffixes { are_flat_suffixes suffixes ≡ true }
-    ensures shown { IfOk result (λ e. view e ≡ shown.with_suffixes (view first) (map part.suffix_parts suffixes)) }
+    ensures shown { IfOk result (λ e. view e ≡ shown.with_suffixes (view first) (map (suffix_with view) suffixes)) }
     ensures flat { IfOk result (λ e. is_flat e ≡ true) }
 {
     if suffixes.is_empty() {
@@ -130,16 +130,16 @@ pub fn chained(
 }
 
 /// `new` and its class.
-pub fn made(alloc: Global, spot: Spot, class: Class<Expr>) -> Result<Expr, AllocError>
+pub fn new_expr(alloc: Global, spot: Spot, class: Class<Expr>) -> Result<Expr, AllocError>
     requires { is_flat_class class ≡ true }
-    ensures shown { IfOk result (λ e. view e ≡ tree.new (spot_view spot) (shown.class_view (part.class_parts class))) }
+    ensures shown { IfOk result (λ e. view e ≡ tree.new (spot_view spot) (shown.class_view (class_with view class))) }
     ensures flat { IfOk result (λ e. is_flat_leaf e ≡ true) }
 {
     Ok(Expr::New(spot, Boxed::new(alloc, class)?))
 }
 
 /// `new`, its class and its arguments.
-pub fn made_with(
+pub fn new_with_expr(
     alloc: Global,
     spot: Spot,
     class: Class<Expr>,
@@ -147,14 +147,14 @@ pub fn made_with(
 ) -> Result<Expr, AllocError>
     requires class { is_flat_class class ≡ true }
     requires arguments { are_flat_arguments arguments ≡ true }
-    ensures shown { IfOk result (λ e. view e ≡ tree.new_with (spot_view spot) (shown.class_view (part.class_parts class)) (shown.arguments_from tree.none (map part.argument_parts arguments))) }
+    ensures shown { IfOk result (λ e. view e ≡ tree.new_with (spot_view spot) (shown.class_view (class_with view class)) (shown.arguments_from tree.none (map (argument_with view) arguments))) }
     ensures flat { IfOk result (λ e. is_flat_leaf e ≡ true) }
 {
     Ok(Expr::NewWith(spot, Boxed::new(alloc, class)?, arguments))
 }
 
 /// A prefix operator and its operand.
-pub fn prefixed(alloc: Global, spot: Spot, op: Prefix, operand: Expr) -> Result<Expr, AllocError>
+pub fn prefix_expr(alloc: Global, spot: Spot, op: Prefix, operand: Expr) -> Result<Expr, AllocError>
     requires { is_flat operand ≡ true }
     ensures shown { IfOk result (λ e. view e ≡ tree.prefix (spot_view spot) op (view operand)) }
     ensures flat { IfOk result (λ e. is_flat e ≡ true) }
@@ -163,7 +163,7 @@ pub fn prefixed(alloc: Global, spot: Spot, op: Prefix, operand: Expr) -> Result<
 }
 
 /// `++` or `--` behind an operand.
-pub fn counted(alloc: Global, operand: Expr, count: Count) -> Result<Expr, AllocError>
+pub fn count_expr(alloc: Global, operand: Expr, count: Count) -> Result<Expr, AllocError>
     requires { is_flat operand ≡ true }
     ensures shown { IfOk result (λ e. view e ≡ tree.count (view operand) count) }
     ensures flat { IfOk result (λ e. is_flat e ≡ true) }
@@ -172,7 +172,7 @@ pub fn counted(alloc: Global, operand: Expr, count: Count) -> Result<Expr, Alloc
 }
 
 /// An assignment of a value.
-pub fn assigned(alloc: Global, op: Assign, target: Expr, value: Expr) -> Result<Expr, AllocError>
+pub fn assign_expr(alloc: Global, op: Assign, target: Expr, value: Expr) -> Result<Expr, AllocError>
     requires target { is_flat target ≡ true }
     requires value { is_flat value ≡ true }
     ensures shown { IfOk result (λ e. view e ≡ tree.assign (tree.by_value op) (view target) (view value)) }
@@ -182,7 +182,7 @@ pub fn assigned(alloc: Global, op: Assign, target: Expr, value: Expr) -> Result<
 }
 
 /// An assignment of a reference.
-pub fn referred(alloc: Global, target: Expr, source: Expr) -> Result<Expr, AllocError>
+pub fn assign_reference_expr(alloc: Global, target: Expr, source: Expr) -> Result<Expr, AllocError>
     requires target { is_flat target ≡ true }
     requires source { is_flat source ≡ true }
     ensures shown { IfOk result (λ e. view e ≡ tree.assign tree.by_reference (view target) (view source)) }
@@ -192,7 +192,7 @@ pub fn referred(alloc: Global, target: Expr, source: Expr) -> Result<Expr, Alloc
 }
 
 /// `yield` and a value.
-pub fn yielded(alloc: Global, spot: Spot, value: Expr) -> Result<Expr, AllocError>
+pub fn yield_value_expr(alloc: Global, spot: Spot, value: Expr) -> Result<Expr, AllocError>
     requires { is_flat value ≡ true }
     ensures shown { IfOk result (λ e. view e ≡ tree.yield_value (spot_view spot) (view value)) }
     ensures flat { IfOk result (λ e. is_flat e ≡ true) }
@@ -201,7 +201,12 @@ pub fn yielded(alloc: Global, spot: Spot, value: Expr) -> Result<Expr, AllocErro
 }
 
 /// `yield`, a key and a value.
-pub fn yielded_pair(alloc: Global, spot: Spot, key: Expr, value: Expr) -> Result<Expr, AllocError>
+pub fn yield_pair_expr(
+    alloc: Global,
+    spot: Spot,
+    key: Expr,
+    value: Expr,
+) -> Result<Expr, AllocError>
     requires key { is_flat key ≡ true }
     requires value { is_flat value ≡ true }
     ensures shown { IfOk result (λ e. view e ≡ tree.yield_pair (spot_view spot) (view key) (view value)) }
@@ -211,7 +216,7 @@ pub fn yielded_pair(alloc: Global, spot: Spot, key: Expr, value: Expr) -> Result
 }
 
 /// `instanceof` and a class.
-pub fn checked(alloc: Global, left: Expr, class: Expr) -> Result<Expr, AllocError>
+pub fn instance_of_expr(alloc: Global, left: Expr, class: Expr) -> Result<Expr, AllocError>
     requires left { is_flat left ≡ true }
     requires class { is_flat class ≡ true }
     ensures shown { IfOk result (λ e. view e ≡ tree.instance_of (view left) (view class)) }
@@ -221,7 +226,7 @@ pub fn checked(alloc: Global, left: Expr, class: Expr) -> Result<Expr, AllocErro
 }
 
 /// `instanceof static`.
-pub fn checked_static(alloc: Global, left: Expr, spot: Spot) -> Result<Expr, AllocError>
+pub fn instance_of_static_expr(alloc: Global, left: Expr, spot: Spot) -> Result<Expr, AllocError>
     requires { is_flat left ≡ true }
     ensures shown { IfOk result (λ e. view e ≡ tree.instance_of_static (view left) (spot_view spot)) }
     ensures flat { IfOk result (λ e. is_flat e ≡ true) }
@@ -229,7 +234,7 @@ pub fn checked_static(alloc: Global, left: Expr, spot: Spot) -> Result<Expr, All
     Ok(Expr::InstanceOfStatic(Boxed::new(alloc, left)?, spot))
 }
 
-fn paired(alloc: Global, op: Binary, left: Expr, right: Expr) -> Result<Expr, AllocError>
+fn two_sided_expr(alloc: Global, op: Binary, left: Expr, right: Expr) -> Result<Expr, AllocError>
     requires left { is_flat left ≡ true }
     requires right { is_flat right ≡ true }
     requires no_run { is_left (binary_row op).grouping ≡ false }
@@ -260,11 +265,11 @@ fn continues(links: &Items<Link<Expr>>, power: u8) -> bool
 }
 
 /// The first link of a run behind its first operand.
-fn begun(alloc: Global, first: Expr, link: Link<Expr>) -> Result<Expr, AllocError>
+fn begun_run_expr(alloc: Global, first: Expr, link: Link<Expr>) -> Result<Expr, AllocError>
     requires first { is_flat first ≡ true }
     requires other { is_run (link_row link).power first ≡ false }
     requires link { is_flat_link link ≡ true }
-    ensures shown { IfOk result (λ e. view e ≡ shown.with_link (view first) (part.link_parts link)) }
+    ensures shown { IfOk result (λ e. view e ≡ shown.with_link (view first) (link_with view link)) }
     ensures flat { IfOk result (λ e. is_flat e ≡ true) }
 {
     let mut links = Items::new(alloc);
@@ -272,16 +277,16 @@ fn begun(alloc: Global, first: Expr, link: Link<Expr>) -> Result<Expr, AllocErro
     Ok(Expr::Run(Boxed::new(alloc, first)?, links))
 }
 
-fn run_of(first: Boxed<Expr>, links: Items<Link<Expr>>) -> Expr
+fn run_expr(first: Boxed<Expr>, links: Items<Link<Expr>>) -> Expr
     requires { is_flat_run first links ≡ true }
-    ensures shown { view result ≡ shown.with_links (view first) (map part.link_parts links) }
+    ensures shown { view result ≡ shown.with_links (view first) (map (link_with view) links) }
     ensures flat { is_flat result ≡ true }
 {
     Expr::Run(first, links)
 }
 
 /// One more link behind a run: in its list where the power is the same, else of a run around it.
-fn continued(
+fn continued_run_expr(
     alloc: Global,
     first: Boxed<Expr>,
     links: Items<Link<Expr>>,
@@ -289,39 +294,39 @@ fn continued(
 ) -> Result<Expr, AllocError>
     requires run { is_flat_run first links ≡ true }
     requires link { is_flat_link link ≡ true }
-    ensures shown { IfOk result (λ e. view e ≡ shown.with_link (shown.with_links (view first) (map part.link_parts links)) (part.link_parts link)) }
+    ensures shown { IfOk result (λ e. view e ≡ shown.with_link (shown.with_links (view first) (map (link_with view) links)) (link_with view link)) }
     ensures flat { IfOk result (λ e. is_flat e ≡ true) }
 {
     if !continues(&links, power_of(&link)) {
-        return begun(alloc, Expr::Run(first, links), link);
+        return begun_run_expr(alloc, Expr::Run(first, links), link);
     }
     let mut longer = links;
     longer.push(link)?;
-    Ok(run_of(first, longer))
+    Ok(run_expr(first, longer))
 }
 
 /// An expression that goes on with a link; operators of one power are one run.
-pub fn linked(alloc: Global, left: Expr, link: Link<Expr>) -> Result<Expr, AllocError>
+pub fn link_expr(alloc: Global, left: Expr, link: Link<Expr>) -> Result<Expr, AllocError>
     requires left { is_flat left ≡ true }
     requires link { is_flat_link link ≡ true }
-    ensures shown { IfOk result (λ e. view e ≡ shown.with_link (view left) (part.link_parts link)) }
+    ensures shown { IfOk result (λ e. view e ≡ shown.with_link (view left) (link_with view link)) }
     ensures flat { IfOk result (λ e. is_flat e ≡ true) }
 {
     match left {
-        Expr::Run(first, links) => continued(alloc, first, links, link),
-        other => begun(alloc, other, link),
+        Expr::Run(first, links) => continued_run_expr(alloc, first, links, link),
+        other => begun_run_expr(alloc, other, link),
     }
 }
 
 /// An operator between two operands: a link of a run where it groups to the left.
-pub fn joined(alloc: Global, op: Binary, left: Expr, right: Expr) -> Result<Expr, AllocError>
+pub fn binary_expr(alloc: Global, op: Binary, left: Expr, right: Expr) -> Result<Expr, AllocError>
     requires left { is_flat left ≡ true }
     requires right { is_flat right ≡ true }
     ensures shown { IfOk result (λ e. view e ≡ tree.binary op (view left) (view right)) }
     ensures flat { IfOk result (λ e. is_flat e ≡ true) }
 {
     match row_of(op).grouping {
-        Grouping::ToLeft => linked(alloc, left, Link::Operator(op, right)),
-        Grouping::ToRight | Grouping::Ungrouped => paired(alloc, op, left, right),
+        Grouping::ToLeft => link_expr(alloc, left, Link::Operator(op, right)),
+        Grouping::ToRight | Grouping::Ungrouped => two_sided_expr(alloc, op, left, right),
     }
 }

@@ -2,6 +2,7 @@
 use Rattle.std.proofs.Common.{◌≡◌, ◌≤◌, ◌<◌, true, false, ℕ, suc, ◌+◌, ◌-◌, List, [], ◌∷◌, ◌++◌, map, take, drop, length, refl, sym, ◌∙◌, ap, subst, arith, append_assoc}
 use Rattle.std.proofs.lemmas.List.{take-append-drop, drop-drop, length-map, length-take, length-drop, map-append}
 use Rattle.php_token.specs.Token.{Token}
+use Rattle.php_reader.specs.declared.limit.TheConstants.{LEAST_POWER}
 use Rattle.php_ast.specs.Symbol.{Symbol, symbol}
 use Rattle.php_ast.specs.expression.Tree.{Tree}
 use Rattle.php_ast.specs.expression.Proper.{ends_bare}
@@ -14,10 +15,10 @@ use Rattle.php_grammar.proofs.expression.LawProofs.{one_tree}
 use Rattle.php_reader.specs.declared.fail.Stop.{Stop}
 use Rattle.php_reader.specs.declared.fail.Stop.TheVariants.{Syntax, TooDeep, NoMemory}
 use Rattle.php_reader.specs.declared.fail.ParseFail.{ParseFail}
-use Rattle.php_parse_body.specs.declared.read.Read.{Read}
-use Rattle.php_parse_body.specs.Walk.{walk, whole, short, deep}
+use Rattle.php_parse_operands.specs.declared.read.Read.{Read}
+use Rattle.php_parse_operands.specs.Walk.{walk, whole, short, deep}
 use Rattle.php_reader.specs.Seen.{rest}
-use Rattle.php_parse_body.specs.Answer.{Found, StopsAt, Fails}
+use Rattle.php_parse_operands.specs.Answer.{Found, StopsAt, Fails}
 use Rattle.php_parse_body.specs.Exact.{between, symbols, Reaches, IsRead, IsSyntax, IsTooDeep, IsRefused}
 use Rattle.php_reader.specs.Line.{IsLined, line_at}
 use Rattle.php_parse_body.proofs.Blanks.{blank}
@@ -74,7 +75,7 @@ reaches tokens at k ahead within begins most = record {
 form_is : (tokens : List Token) (at : ℕ) (e : Tree Note) (f : Form) → e ≡ noted (notes_of tokens) at f → form_of e ≡ f
 form_is tokens at e f shown = ap form_of shown ∙ again (notes_of tokens) no_notes at 0 f ∙ blank 0 f
 
-pub is_read : (depth room n : ℕ) (tokens : List Token) (at : ℕ) (r : Read) → room ≡ suc n → n + depth ≡ 128 → Found room 1 1 (λ s. expects s) (rest tokens at) tokens at at r → IsRead depth tokens at r.expr r.next
+pub is_read : (depth room n : ℕ) (tokens : List Token) (at : ℕ) (r : Read) → room ≡ suc n → n + depth ≡ 128 → Found room LEAST_POWER LEAST_POWER (λ s. expects s) (rest tokens at) tokens at at r → IsRead depth tokens at r.expr r.next
 is_read depth room n tokens at r room_is sum found =
     let at_k : at ≤ r.next = omega (arith, found.ahead) in
     let walked : walk n (expects []) (rest tokens at) ≡ whole found.form (rest tokens r.next) =
@@ -93,7 +94,7 @@ is_read depth room n tokens at r room_is sum found =
       shallow = none_deep depth (nests (form_of (view r.expr)) 0 []) (subst (λ z. AllWithin depth (nests z 0 [])) (sym form) (w.shallow depth sum));
     }
 
-pub is_syntax : (depth room n : ℕ) (tokens : List Token) (at k line : ℕ) → room ≡ suc n → n + depth ≡ 128 → StopsAt false room 1 (λ s. expects s) (rest tokens at) tokens at k → line ≡ line_at tokens k → IsSyntax depth tokens at k line
+pub is_syntax : (depth room n : ℕ) (tokens : List Token) (at k line : ℕ) → room ≡ suc n → n + depth ≡ 128 → StopsAt false room LEAST_POWER (λ s. expects s) (rest tokens at) tokens at k → line ≡ line_at tokens k → IsSyntax depth tokens at k line
 is_syntax depth room n tokens at k line room_is sum stops on_line =
     let walked : walk n (expects []) (rest tokens at) ≡ short (rest tokens k) = stops.halts.same n [] tt (omega arith) (omega arith) in
     let w = short_walk n (rest tokens at) (symbols tokens at k) (rest tokens k) (split tokens at k stops.ahead) walked in
@@ -122,7 +123,7 @@ deep_token n tokens at k walked within ahead = deep_by (rest tokens k) refl
     deep_by [] is = absurd (never_deep n (rest tokens at) (walked ∙ ap deep is))
     deep_by (t ∷ v) is = omega (arith, ap length is, length-map (drop k tokens) symbol, length-drop k tokens)
 
-pub is_too_deep : (depth room n : ℕ) (tokens : List Token) (at k line : ℕ) → room ≡ suc n → n + depth ≡ 128 → StopsAt true room 1 (λ s. expects s) (rest tokens at) tokens at k → line ≡ line_at tokens k → IsTooDeep depth tokens at k line
+pub is_too_deep : (depth room n : ℕ) (tokens : List Token) (at k line : ℕ) → room ≡ suc n → n + depth ≡ 128 → StopsAt true room LEAST_POWER (λ s. expects s) (rest tokens at) tokens at k → line ≡ line_at tokens k → IsTooDeep depth tokens at k line
 is_too_deep depth room n tokens at k line room_is sum stops on_line =
     let walked : walk n (expects []) (rest tokens at) ≡ deep (rest tokens k) = stops.halts.same n [] tt (omega arith) (omega arith) in
     let inside : k < length tokens = deep_token n tokens at k walked stops.within stops.ahead in
@@ -138,7 +139,7 @@ is_too_deep depth room n tokens at k line room_is sum stops on_line =
       on_line = on_line;
     }
 
-pub is_refused : (depth room n : ℕ) (tokens : List Token) (at : ℕ) (e : Stop) (fail : ParseFail) → room ≡ suc n → n + depth ≡ 128 → Fails room 1 (λ s. expects s) (rest tokens at) tokens at e → IsLined tokens e fail → IsRefused depth tokens at fail
+pub is_refused : (depth room n : ℕ) (tokens : List Token) (at : ℕ) (e : Stop) (fail : ParseFail) → room ≡ suc n → n + depth ≡ 128 → Fails room LEAST_POWER (λ s. expects s) (rest tokens at) tokens at e → IsLined tokens e fail → IsRefused depth tokens at fail
 is_refused depth room n tokens at (Syntax k) fail room_is sum fails is =
     subst (IsRefused depth tokens at) (sym is) (is_syntax depth room n tokens at k (line_at tokens k) room_is sum fails refl)
 is_refused depth room n tokens at (TooDeep k) fail room_is sum fails is =

@@ -7,20 +7,20 @@ use Rattle.php_ast.specs.declared.operator.ArrayForm.TheVariants as array_form
 use Rattle.php_grammar.specs.expression.Depth.{depth_at}
 use Rattle.php_ast.specs.expression.Tree.{colons, parentheses, emptiness, exiting, array, is_set}
 use Rattle.php_grammar.specs.expression.Role.{Continuation, draws, continuation, by_select, Beginning, at_leaf, at_static, at_template, at_exit, at_new, at_yield, at_enclosed, at_listed, at_prefix, at_nothing, beginning}
-use Rattle.php_ast.specs.expression.Proper.{operand_level}
+use Rattle.php_ast.specs.expression.Proper.{operand_level, free}
 use Rattle.php_grammar.specs.expression.Machine.{OpenForms, State, expects, past_static, instance_of_open, least_power, prefix_open, past_yield, allowed_if, advance, start, static_step, started}
 use Rattle.php_grammar.specs.expression.Laws.{head_continuation}
 use Rattle.php_reader.specs.declared.fail.Stop.{Stop}
-use Rattle.php_parse_body.specs.declared.read.Read.{Read}
-use Rattle.php_parse_body.specs.Walk.{Leads, Halts, walk, short, deep}
+use Rattle.php_parse_operands.specs.declared.read.Read.{Read}
+use Rattle.php_parse_operands.specs.Walk.{Leads, Halts, walk, short, deep}
 use Rattle.php_reader.specs.Seen.{head_beginning}
-use Rattle.php_parse_body.specs.Answer.{Answers}
-use Rattle.php_parse_body.proofs.Moves.{leads, leads_halts, move, sticks, sinks}
-use Rattle.php_parse_body.proofs.Fails.{later}
+use Rattle.php_parse_operands.specs.Answer.{Answers}
+use Rattle.php_parse_operands.proofs.Moves.{leads, leads_halts, move, sticks, sinks}
+use Rattle.php_parse_operands.proofs.Fails.{later}
 
-pub behind : {room level : ℕ} {from : OpenForms → State} {x w : List Symbol} (least : ℕ) (tokens : List Token) (start at place : ℕ) (mid : OpenForms → State) (r : Result Read Stop) → at ≤ place
-    → Leads room level from x mid w → Answers room level least mid w tokens start place r → Answers room level least from x tokens start at r
-behind least tokens start at place mid (Ok r) ahead a found = record {
+pub behind : {room least : ℕ} {from : OpenForms → State} {x w : List Symbol} (below : ℕ) (tokens : List Token) (start at place : ℕ) (mid : OpenForms → State) (r : Result Read Stop) → at ≤ place
+    → Leads room least from x mid w → Answers room least below mid w tokens start place r → Answers room least below from x tokens start at r
+behind below tokens start at place mid (Ok r) ahead a found = record {
   form = found.form;
   spans = found.spans;
   reads = leads mid a found.reads;
@@ -31,7 +31,7 @@ behind least tokens start at place mid (Ok r) ahead a found = record {
   within = found.within;
   deep = found.deep;
 }
-behind least tokens start at place mid (Err e) ahead a fails = later tokens at place mid e ahead a fails
+behind below tokens start at place mid (Err e) ahead a fails = later tokens at place mid e ahead a fails
 
 abbrev pub IsSome : {A : Type 0} → Option A → Type 0
 IsSome None = ⊥
@@ -39,14 +39,14 @@ IsSome (Some x) = Unit {0}
 
 -- ---- `static` with no `::` behind it
 
-static_by : (n : ℕ) (s : OpenForms) (x : Continuation) → least_power s ≤ 50 → x ≢ draws (by_select colons) → static_step s x ≡ None
+static_by : (n : ℕ) (s : OpenForms) (x : Continuation) → least_power s ≤ free → x ≢ draws (by_select colons) → static_step s x ≡ None
 static_by n [] (draws (by_select colons)) low h = absurd (h refl)
 static_by n [] _ low h = refl
 static_by n (instance_of_open l ∷ s) x low h = absurd (omega arith)
 static_by n (_ ∷ s) (draws (by_select colons)) low h = absurd (h refl)
 static_by n (_ ∷ s) _ low h = refl
 
-static_short : (n : ℕ) (s : OpenForms) (v : List Symbol) → least_power s ≤ 50 → head_continuation v ≢ draws (by_select colons) → walk n (past_static s) v ≡ short v
+static_short : (n : ℕ) (s : OpenForms) (v : List Symbol) → least_power s ≤ free → head_continuation v ≢ draws (by_select colons) → walk n (past_static s) v ≡ short v
 static_short n [] [] low h = refl
 static_short n (instance_of_open l ∷ s) v low h = absurd (omega arith)
 static_short n (_ ∷ s) [] low h = refl
@@ -54,7 +54,7 @@ static_short n [] (t ∷ w) low h = sticks n (past_static []) t w (static_by n [
 static_short n (f ∷ s) (t ∷ w) low h = sticks n (past_static (f ∷ s)) t w (static_by n (f ∷ s) (continuation t) low h)
 
 pub static_alone : {room : ℕ} {x w : List Symbol} (t : Symbol) → x ≡ t ∷ w → beginning t ≡ at_static → head_continuation w ≢ draws (by_select colons) → 1 ≤ room
-    → Halts false room 50 (λ s. expects s) x w
+    → Halts false room free (λ s. expects s) x w
 static_alone {room} {x} {w} t is begins alone some =
     leads_halts (λ s. past_static s) (move t is (λ s near. ap (λ b. started b s) begins) (λ n s near at. omega arith))
     (record { same = λ n s whole near at. static_short n s w (omega arith) alone })
@@ -65,11 +65,11 @@ nothing_in : (n : ℕ) (s : OpenForms) (v : List Symbol) → head_beginning v �
 nothing_in n s [] h = refl
 nothing_in n s (t ∷ w) h = sticks n (expects s) t w (ap (λ b. started b s) h)
 
-pub nothing : {room level : ℕ} {v : List Symbol} → head_beginning v ≡ at_nothing → Halts false room level (λ s. expects s) v v
-nothing {room} {level} {v} h = record { same = λ n s whole near at. nothing_in n s v h }
+pub nothing : {room least : ℕ} {v : List Symbol} → head_beginning v ≡ at_nothing → Halts false room least (λ s. expects s) v v
+nothing {room} {least} {v} h = record { same = λ n s whole near at. nothing_in n s v h }
 
 -- where no level is left, what begins an expression is nested too deep
-deep_by : (b : Beginning) (s : OpenForms) → least_power s ≤ 50 → b ≢ at_nothing → IsSome (started b s)
+deep_by : (b : Beginning) (s : OpenForms) → least_power s ≤ free → b ≢ at_nothing → IsSome (started b s)
 deep_by (at_leaf l) s low h = tt
 deep_by at_static s low h = tt
 deep_by at_template s low h = tt
@@ -90,7 +90,7 @@ sinks_some : (n : ℕ) (m : State) (t : Symbol) (w : List Symbol) (o : Option St
 sinks_some n m t w (Some to) is some under = sinks n m to t w is under
 sinks_some n m t w None is some under = absurd some
 
-pub sinks_here : {level : ℕ} {x w : List Symbol} (t : Symbol) → level ≤ 50 → x ≡ t ∷ w → beginning t ≢ at_nothing → Halts true 0 level (λ s. expects s) x x
-sinks_here {level} {x} {w} t low is some = record {
+pub sinks_here : {least : ℕ} {x w : List Symbol} (t : Symbol) → least ≤ free → x ≡ t ∷ w → beginning t ≢ at_nothing → Halts true 0 least (λ s. expects s) x x
+sinks_here {least} {x} {w} t low is some = record {
   same = λ n s whole near at. ap (walk n (expects s)) is ∙ sinks_some n (expects s) t w (start s t) refl (deep_by (beginning t) s (omega arith) some) (omega arith) ∙ ap deep (sym is);
 }

@@ -1,7 +1,8 @@
 -- Operators, and what stands before them.
-use Rattle.std.proofs.Common.{◌≡◌, ◌≢◌, ◌≤◌, ◌<◌, ◌⊎◌, inl, inr, ℕ, ◌+◌, ◌-◌, Bool, true, false, Some, None, List, [], ◌∷◌, refl, ◌∙◌, ap, subst, arith, ltb-true, ltb-false}
+use Rattle.std.proofs.Common.{◌≡◌, ◌≢◌, ◌≤◌, ◌<◌, ◌⊎◌, inl, inr, ℕ, suc, ◌+◌, ◌-◌, Bool, true, false, Some, None, List, [], ◌∷◌, refl, ◌∙◌, ap, subst, arith, ltb-true, ltb-false}
 use Rattle.std.specs.Prelude.{nat_lt}
 use Rattle.std.proofs.lemmas.Bool.{lt-ltb}
+use Rattle.php_reader.specs.declared.limit.TheConstants.{LEAST_POWER}
 use Rattle.php_ast.specs.declared.operator.Assign.{Assign}
 use Rattle.php_ast.specs.declared.operator.Assign.TheVariants as setting
 use Rattle.php_ast.specs.declared.operator.Binary.{Binary}
@@ -15,10 +16,10 @@ use Rattle.php_ast.specs.expression.View.{Note}
 use Rattle.php_ast.specs.expression.Placed.{size, setting_size, noted, notes_of}
 use Rattle.php_reader.specs.declared.fail.Stop.{Stop}
 use Rattle.php_reader.specs.declared.fail.Stop.TheVariants.{Syntax, TooDeep, NoMemory}
-use Rattle.php_parse_body.specs.Answer.{Spans, Fails}
+use Rattle.php_parse_operands.specs.Answer.{Spans, Fails}
 use Rattle.php_ast.specs.expression.Nesting.{right_depth}
 use Rattle.php_ast.specs.Power.{binary_row}
-use Rattle.php_ast.specs.expression.Proper.{operand_level, ends, right, is_call}
+use Rattle.php_ast.specs.expression.Proper.{operand_level, ends, right, is_call, free, top, call_strength}
 use Rattle.php_ast.specs.expression.Tree.{prefix, count, binary, instance_of, instance_of_static, choice, short_choice, assign, by_value, by_reference, yield_nothing, yield_value, yield_pair, colons}
 use Rattle.php_grammar.specs.expression.Role as role
 use Rattle.php_grammar.specs.expression.Role.{Beginning, at_nothing, at_static, at_yield, at_prefix, beginning, Draw, by_binary, by_instance_of, by_choice, by_assign, by_count, draw_strength, Continuation, closes, draws, neither, continuation, strength_of, is_arrow, ends_yield, by_select, is_ampersand, is_colon}
@@ -26,23 +27,23 @@ use Rattle.php_grammar.specs.expression.Machine.{Form, OpenForm, prefix_open, bi
 use Rattle.php_grammar.specs.expression.Depth.{deepened, depth, depth_behind}
 use Rattle.php_grammar.specs.expression.Laws.{head_continuation}
 use Rattle.php_grammar.proofs.expression.Fill.{binary_bound}
-use Rattle.php_parse_body.specs.Walk.{Leads, Halts, Rests, head_strength, walk, short}
+use Rattle.php_parse_operands.specs.Walk.{Leads, Halts, Rests, head_strength, walk, short}
 use Rattle.php_reader.specs.Seen.{test, head_beginning, NoOperand}
-use Rattle.php_parse_body.proofs.Moves.{leads, leads_halts, move, sticks, inside, finish, finish_instance, completed_ends, draw, call_halts, close, unclosed_halts}
-use Rattle.php_parse_body.proofs.Enters.{assign_enters, question_enters, yield_enters, yield_alone, static_ends}
+use Rattle.php_parse_operands.proofs.Moves.{leads, leads_halts, move, sticks, inside, finish, finish_instance, completed_ends, draw, call_halts, close, unclosed_halts}
+use Rattle.php_parse_operands.proofs.Enters.{assign_enters, question_enters, yield_enters, yield_alone, static_ends}
 
 -- ---- an operator form
 
-pub operator_reads : {room level : ℕ} {from : OpenForms → State} {x w v : List Symbol} (f : OpenForm) (e : Form) (inner least : ℕ) → level ≤ 50 → 0 < least_power_at f → least_power_at f ≤ 50 → least ≡ least_power_at f
+pub operator_reads : {room least : ℕ} {from : OpenForms → State} {x w v : List Symbol} (f : OpenForm) (e : Form) (inner inner_least : ℕ) → least ≤ free → 0 < least_power_at f → least_power_at f ≤ free → inner_least ≡ least_power_at f
     → (is_arrow (head_continuation v) ≡ true → ends_at true f ≡ least_power_at f) → ((d : ℕ) → deepened f d + inner ≡ d + room)
-    → Leads room level from x (λ s. expects (f ∷ s)) w → Leads inner least (λ s. expects s) w (λ s. holds e s) v → Rests least (ends e) v
-    → Leads room level from x (λ s. holds (completed f e) s) v
-operator_reads {room} {level} {from} {x} {w} {v} f e inner least low some most is arrow deeper opens r rests =
+    → Leads room least from x (λ s. expects (f ∷ s)) w → Leads inner inner_least (λ s. expects s) w (λ s. holds e s) v → Rests inner_least (ends e) v
+    → Leads room least from x (λ s. holds (completed f e) s) v
+operator_reads {room} {least} {from} {x} {w} {v} f e inner inner_least low some most is arrow deeper opens r rests =
     leads (λ s. expects (f ∷ s)) opens
-    (leads (λ s. holds e (f ∷ s)) (inside inner least f (inr low) (omega (arith, is)) deeper r)
+    (leads (λ s. holds e (f ∷ s)) (inside inner inner_least f (inr low) (omega (arith, is)) deeper r)
     (finish f e v low some most arrow (subst (λ n. Rests n (ends e) v) is rests)))
 
-pub operator_rests : (f : OpenForm) (e : Form) (least : ℕ) (v : List Symbol) → 0 < least_power_at f → least_power_at f ≤ 50 → least ≡ least_power_at f → Rests least (ends e) v → Rests 50 (ends (completed f e)) v
+pub operator_rests : (f : OpenForm) (e : Form) (least : ℕ) (v : List Symbol) → 0 < least_power_at f → least_power_at f ≤ free → least ≡ least_power_at f → Rests least (ends e) v → Rests free (ends (completed f e)) v
 operator_rests f e least v some most is (inl h) = inl (omega arith)
 operator_rests f e least v some most is (inr h) = inr (omega (arith, completed_ends f e some most))
 
@@ -59,14 +60,14 @@ rests_same n v = rests_by (nat_lt (head_strength v) n) n (head_strength v) refl
 -- ---- prefix operators
 
 pub prefix_opens : {room : ℕ} {x w : List Symbol} (t : Symbol) (op : Prefix) → x ≡ t ∷ w → beginning t ≡ at_prefix op → 1 ≤ room
-    → Leads room 50 (λ s. expects s) x (λ s. expects (prefix_open op ∷ s)) w
+    → Leads room free (λ s. expects s) x (λ s. expects (prefix_open op ∷ s)) w
 prefix_opens t op is begins deep =
     move t is (λ s near. ap (λ b. started b s) begins ∙ ap (λ b. allowed_if b (expects (prefix_open op ∷ s))) (lt-ltb (least_power s) operand_level (omega arith))) (λ n s near at. omega arith)
 
 -- ---- assignments
 
-pub value_opens : {room : ℕ} {x w : List Symbol} (t : Symbol) (op : Assign) (f : Form) → x ≡ t ∷ w → continuation t ≡ draws (by_assign op) → 50 < ends f → (op ≡ setting.Plain → test is_ampersand w ≡ false) → 1 ≤ room
-    → Leads room 50 (λ s. holds f s) x (λ s. expects (assign_open (by_value op) f ∷ s)) w
+pub value_opens : {room : ℕ} {x w : List Symbol} (t : Symbol) (op : Assign) (f : Form) → x ≡ t ∷ w → continuation t ≡ draws (by_assign op) → free < ends f → (op ≡ setting.Plain → test is_ampersand w ≡ false) → 1 ≤ room
+    → Leads room free (λ s. holds f s) x (λ s. expects (assign_open (by_value op) f ∷ s)) w
 value_opens t setting.Plain f is drawing low no_reference deep =
     leads (λ s. past_assign f s) (draw t (by_assign setting.Plain) f is drawing (omega arith) low deep) (assign_enters f (no_reference refl))
 value_opens t setting.Power f is drawing low no_reference deep = draw t (by_assign setting.Power) f is drawing (omega arith) low deep
@@ -82,8 +83,8 @@ value_opens t setting.BitAnd f is drawing low no_reference deep = draw t (by_ass
 value_opens t setting.BitXor f is drawing low no_reference deep = draw t (by_assign setting.BitXor) f is drawing (omega arith) low deep
 value_opens t setting.BitOr f is drawing low no_reference deep = draw t (by_assign setting.BitOr) f is drawing (omega arith) low deep
 
-pub reference_opens : {room : ℕ} {x y w : List Symbol} (t u : Symbol) (f : Form) → x ≡ t ∷ y → continuation t ≡ draws (by_assign setting.Plain) → 50 < ends f → y ≡ u ∷ w → is_ampersand u ≡ true → 1 ≤ room
-    → Leads room 50 (λ s. holds f s) x (λ s. expects (assign_open by_reference f ∷ s)) w
+pub reference_opens : {room : ℕ} {x y w : List Symbol} (t u : Symbol) (f : Form) → x ≡ t ∷ y → continuation t ≡ draws (by_assign setting.Plain) → free < ends f → y ≡ u ∷ w → is_ampersand u ≡ true → 1 ≤ room
+    → Leads room free (λ s. holds f s) x (λ s. expects (assign_open by_reference f ∷ s)) w
 reference_opens t u f is drawing low more refers deep =
     leads (λ s. past_assign f s) (draw t (by_assign setting.Plain) f is drawing (omega arith) low deep)
     (move u more (λ s near. ap (λ b. pick b (Some (expects (assign_open by_reference f ∷ s))) (start (assign_open (by_value setting.Plain) f ∷ s) u)) refers)
@@ -91,19 +92,19 @@ reference_opens t u f is drawing low more refers deep =
 
 -- ---- `yield`
 
-yield_begins : {room : ℕ} {x w : List Symbol} (t : Symbol) → x ≡ t ∷ w → beginning t ≡ at_yield → 1 ≤ room → Leads room 50 (λ s. expects s) x (λ s. past_yield s) w
+yield_begins : {room : ℕ} {x w : List Symbol} (t : Symbol) → x ≡ t ∷ w → beginning t ≡ at_yield → 1 ≤ room → Leads room free (λ s. expects s) x (λ s. past_yield s) w
 yield_begins t is begins deep =
     move t is (λ s near. ap (λ b. started b s) begins ∙ ap (λ b. allowed_if b (past_yield s)) (lt-ltb (least_power s) operand_level (omega arith))) (λ n s near at. omega arith)
 
 pub yield_nothing_reads : {room : ℕ} {x w : List Symbol} (t : Symbol) → x ≡ t ∷ w → beginning t ≡ at_yield → ends_yield (head_continuation w) ≡ true → 1 ≤ room
-    → Leads room 50 (λ s. expects s) x (λ s. holds (yield_nothing tt) s) w
+    → Leads room free (λ s. expects s) x (λ s. holds (yield_nothing tt) s) w
 yield_nothing_reads t is begins alone deep = leads (λ s. past_yield s) (yield_begins t is begins deep) (yield_alone alone)
 
 pub yield_opens : {room : ℕ} {x w : List Symbol} (t : Symbol) → x ≡ t ∷ w → beginning t ≡ at_yield → ends_yield (head_continuation w) ≡ false → 1 ≤ room
-    → Leads room 50 (λ s. expects s) x (λ s. expects (yield_open ∷ s)) w
+    → Leads room free (λ s. expects s) x (λ s. expects (yield_open ∷ s)) w
 yield_opens t is begins more deep = leads (λ s. past_yield s) (yield_begins t is begins deep) (yield_enters more)
 
-pub yield_ends_low : (x : Continuation) → ends_yield x ≡ true → strength_of x < 50
+pub yield_ends_low : (x : Continuation) → ends_yield x ≡ true → strength_of x < free
 yield_ends_low (closes c) h = omega arith
 yield_ends_low (draws d) h = cc
 yield_ends_low neither h = cc
@@ -121,97 +122,97 @@ arrow_is (draws d) h = cc
 arrow_is neither h = cc
 
 pub pair_opens : {room : ℕ} {x w : List Symbol} (t : Symbol) (k : Form) → x ≡ t ∷ w → continuation t ≡ closes role.double_arrow → 2 ≤ room
-    → Leads room 50 (λ s. holds k (yield_open ∷ s)) x (λ s. expects (yield_value_open k ∷ s)) w
+    → Leads room free (λ s. holds k (yield_open ∷ s)) x (λ s. expects (yield_value_open k ∷ s)) w
 pair_opens t k is arrow deep =
     move t is (λ s near. ap (goes_on k (yield_open ∷ s)) arrow) (λ n s near at. omega (arith, ap (depth_behind (yield_open ∷ s)) arrow))
 
 -- ---- operators between two operands
 
-pub right_bounds : (op : Binary) → (0 < right (binary_row op)) × (right (binary_row op) ≤ 50) × (right_depth (binary_row op).grouping ≤ 1)
+pub right_bounds : (op : Binary) → (0 < right (binary_row op)) × (right (binary_row op) ≤ free) × (right_depth (binary_row op).grouping ≤ 1)
 right_bounds binary_op.Power = (omega arith, omega arith, omega arith)
 right_bounds binary_op.Coalesced = (omega arith, omega arith, omega arith)
 right_bounds binary_op.Times = (omega arith, omega arith, omega arith)
 right_bounds _ = (omega arith, omega arith, omega arith)
 
-pub binary_opens : {room level : ℕ} {x w : List Symbol} (t : Symbol) (op : Binary) (f : Form) → x ≡ t ∷ w → continuation t ≡ draws (by_binary op) → level ≤ (binary_row op).power → (binary_row op).power < ends f → 1 ≤ room
-    → Leads room level (λ s. holds f s) x (λ s. expects (binary_open op f ∷ s)) w
+pub binary_opens : {room least : ℕ} {x w : List Symbol} (t : Symbol) (op : Binary) (f : Form) → x ≡ t ∷ w → continuation t ≡ draws (by_binary op) → least ≤ (binary_row op).power → (binary_row op).power < ends f → 1 ≤ room
+    → Leads room least (λ s. holds f s) x (λ s. expects (binary_open op f ∷ s)) w
 binary_opens t op f is drawing near low deep = draw t (by_binary op) f is drawing near low deep
 
 -- ---- `? :`
 
-pub short_opens : {room level : ℕ} {x y w : List Symbol} (t u : Symbol) (f : Form) → x ≡ t ∷ y → continuation t ≡ draws by_choice → level ≤ 10 → 10 < ends f → y ≡ u ∷ w → is_colon u ≡ true → 1 ≤ room
-    → Leads room level (λ s. holds f s) x (λ s. expects (short_open f ∷ s)) w
+pub short_opens : {room least : ℕ} {x y w : List Symbol} (t u : Symbol) (f : Form) → x ≡ t ∷ y → continuation t ≡ draws by_choice → least ≤ 10 → 10 < ends f → y ≡ u ∷ w → is_colon u ≡ true → 1 ≤ room
+    → Leads room least (λ s. holds f s) x (λ s. expects (short_open f ∷ s)) w
 short_opens t u f is drawing near low more colon deep =
     leads (λ s. past_question f s) (draw t by_choice f is drawing near low deep)
     (move u more (λ s g. ap (λ b. pick b (Some (expects (short_open f ∷ s))) (start (then_open f ∷ s) u)) colon) (λ n s g at. omega (arith, ap (λ b. pick b (depth s) (1 + depth s)) colon)))
 
-pub then_opens : {room level : ℕ} {x w : List Symbol} (t : Symbol) (f : Form) → x ≡ t ∷ w → continuation t ≡ draws by_choice → level ≤ 10 → 10 < ends f → test is_colon w ≡ false → 1 ≤ room
-    → Leads room level (λ s. holds f s) x (λ s. expects (then_open f ∷ s)) w
+pub then_opens : {room least : ℕ} {x w : List Symbol} (t : Symbol) (f : Form) → x ≡ t ∷ w → continuation t ≡ draws by_choice → least ≤ 10 → 10 < ends f → test is_colon w ≡ false → 1 ≤ room
+    → Leads room least (λ s. holds f s) x (λ s. expects (then_open f ∷ s)) w
 then_opens t f is drawing near low filled deep = leads (λ s. past_question f s) (draw t by_choice f is drawing near low deep) (question_enters f filled)
 
 shut_then : (c : Form) (k : role.Closer) (e : Form) (s : OpenForms) → k ≢ role.colon → closed k e (then_open c) s ≡ None
 shut_then c role.colon e s h = absurd (h refl)
 shut_then c _ e s h = refl
 
-pub then_unclosed : {room level : ℕ} {from : OpenForms → State} {x w y : List Symbol} (f e : Form) → level ≤ 50 → Leads room level from x (λ s. expects (then_open f ∷ s)) w
-    → Leads (room - 1) 1 (λ s. expects s) w (λ s. holds e s) y → 1 ≤ room → Rests 1 (ends e) y → head_continuation y ≢ closes role.colon
-    → Halts false room level from x y
-then_unclosed {room} {level} {from} {x} {w} {y} f e low opens r deep rests shut =
+pub then_unclosed : {room least : ℕ} {from : OpenForms → State} {x w y : List Symbol} (f e : Form) → least ≤ free → Leads room least from x (λ s. expects (then_open f ∷ s)) w
+    → Leads (room - 1) LEAST_POWER (λ s. expects s) w (λ s. holds e s) y → 1 ≤ room → Rests LEAST_POWER (ends e) y → head_continuation y ≢ closes role.colon
+    → Halts false room least from x y
+then_unclosed {room} {least} {from} {x} {w} {y} f e low opens r deep rests shut =
     leads_halts (λ s. expects (then_open f ∷ s)) opens
-    (leads_halts (λ s. holds e (then_open f ∷ s)) (inside (room - 1) 1 (then_open f) (inl refl) (omega arith) (λ d. omega arith) r)
+    (leads_halts (λ s. holds e (then_open f ∷ s)) (inside (room - 1) LEAST_POWER (then_open f) (inl refl) (omega arith) (λ d. omega arith) r)
     (unclosed_halts e (then_open f) y refl rests (λ k s h. shut_then f k e s (λ p. shut (h ∙ ap closes p)))))
 
-pub else_begins : {room level : ℕ} {y v : List Symbol} (f e : Form) (u : Symbol) → y ≡ u ∷ v → continuation u ≡ closes role.colon → 2 ≤ room
-    → Leads room level (λ s. holds e (then_open f ∷ s)) y (λ s. expects (else_open f e ∷ s)) v
+pub else_begins : {room least : ℕ} {y v : List Symbol} (f e : Form) (u : Symbol) → y ≡ u ∷ v → continuation u ≡ closes role.colon → 2 ≤ room
+    → Leads room least (λ s. holds e (then_open f ∷ s)) y (λ s. expects (else_open f e ∷ s)) v
 else_begins f e u more colon deep =
     close u role.colon e (then_open f) (λ s. expects (else_open f e ∷ s)) more colon refl (λ s. refl) (λ d. omega arith) deep
 
 -- ---- `instanceof`
 
-pub instance_opens : {room level : ℕ} {x w : List Symbol} (t : Symbol) (f : Form) → x ≡ t ∷ w → continuation t ≡ draws by_instance_of → level ≤ 36 → 36 < ends f → 1 ≤ room
-    → Leads room level (λ s. holds f s) x (λ s. expects (instance_of_open f ∷ s)) w
+pub instance_opens : {room least : ℕ} {x w : List Symbol} (t : Symbol) (f : Form) → x ≡ t ∷ w → continuation t ≡ draws by_instance_of → least ≤ 36 → 36 < ends f → 1 ≤ room
+    → Leads room least (λ s. holds f s) x (λ s. expects (instance_of_open f ∷ s)) w
 instance_opens t f is drawing near low deep = draw t by_instance_of f is drawing near low deep
 
-operand_in : {room level : ℕ} {w v : List Symbol} (f e : Form) → level ≤ 36 → Leads room 200 (λ s. expects s) w (λ s. after e s) v
-    → Leads room level (λ s. expects (instance_of_open f ∷ s)) w (λ s. after e (instance_of_open f ∷ s)) v
+operand_in : {room least : ℕ} {w v : List Symbol} (f e : Form) → least ≤ 36 → Leads room top (λ s. expects s) w (λ s. after e s) v
+    → Leads room least (λ s. expects (instance_of_open f ∷ s)) w (λ s. after e (instance_of_open f ∷ s)) v
 operand_in f e near r = record { same = λ n s whole g is. r.same n (instance_of_open f ∷ s) (inr (omega arith), whole) (omega arith) (omega arith) }
 
-strength_most : (x : Continuation) → strength_of x ≤ 110
+strength_most : (x : Continuation) → strength_of x ≤ call_strength
 strength_most (draws (by_binary op)) = omega (arith, binary_bound op)
 strength_most (draws _) = omega arith
 strength_most _ = omega arith
 
-call_low : (n : ℕ) (x : Continuation) → (strength_of x < 90) ⊎ (n ≤ strength_of x) → n ≡ 200 → strength_of x < 91
+call_low : (n : ℕ) (x : Continuation) → (strength_of x < operand_level) ⊎ (n ≤ strength_of x) → n ≡ top → strength_of x < suc operand_level
 call_low n x (inl h) is = omega arith
 call_low n x (inr h) is = absurd (omega (arith, strength_most x))
 
-pub instance_reads : {room level : ℕ} {x w v : List Symbol} (f e : Form) → level ≤ 36 → Leads room level (λ s. holds f s) x (λ s. expects (instance_of_open f ∷ s)) w
-    → Leads room 200 (λ s. expects s) w (λ s. after e s) v → is_call e ≡ false → Rests 90 (ends e) v
-    → Leads room level (λ s. holds f s) x (λ s. holds (instance_of f e) s) v
-instance_reads {room} {level} {x} {w} {v} f e near opens r no_call rests =
+pub instance_reads : {room least : ℕ} {x w v : List Symbol} (f e : Form) → least ≤ 36 → Leads room least (λ s. holds f s) x (λ s. expects (instance_of_open f ∷ s)) w
+    → Leads room top (λ s. expects s) w (λ s. after e s) v → is_call e ≡ false → Rests operand_level (ends e) v
+    → Leads room least (λ s. holds f s) x (λ s. holds (instance_of f e) s) v
+instance_reads {room} {least} {x} {w} {v} f e near opens r no_call rests =
     leads (λ s. expects (instance_of_open f ∷ s)) opens
     (leads (λ s. after e (instance_of_open f ∷ s)) (operand_in f e near r)
     (leads (λ s. holds e (instance_of_open f ∷ s)) (record { same = λ n s whole g is. ap (λ b. walk n (after_by b e (instance_of_open f ∷ s)) v) no_call })
     (finish_instance f e v (omega arith) rests)))
 
-pub instance_halts : {room level : ℕ} {x w v : List Symbol} (f e : Form) → level ≤ 36 → Leads room level (λ s. holds f s) x (λ s. expects (instance_of_open f ∷ s)) w
-    → Leads room 200 (λ s. expects s) w (λ s. after e s) v → is_call e ≡ true → ends e ≡ 200 → Rests 90 (ends e) v
-    → Halts false room level (λ s. holds f s) x v
-instance_halts {room} {level} {x} {w} {v} f e near opens r call broad rests =
+pub instance_halts : {room least : ℕ} {x w v : List Symbol} (f e : Form) → least ≤ 36 → Leads room least (λ s. holds f s) x (λ s. expects (instance_of_open f ∷ s)) w
+    → Leads room top (λ s. expects s) w (λ s. after e s) v → is_call e ≡ true → ends e ≡ top → Rests operand_level (ends e) v
+    → Halts false room least (λ s. holds f s) x v
+instance_halts {room} {least} {x} {w} {v} f e near opens r call broad rests =
     leads_halts (λ s. expects (instance_of_open f ∷ s)) opens
     (leads_halts (λ s. after e (instance_of_open f ∷ s)) (operand_in f e near r)
     (call_halts f e v call (call_low (ends e) (head_continuation v) rests broad)))
 
-pub static_instance_reads : {room level : ℕ} {x y w : List Symbol} (f : Form) (u : Symbol) → level ≤ 36 → Leads room level (λ s. holds f s) x (λ s. expects (instance_of_open f ∷ s)) y
+pub static_instance_reads : {room least : ℕ} {x y w : List Symbol} (f : Form) (u : Symbol) → least ≤ 36 → Leads room least (λ s. holds f s) x (λ s. expects (instance_of_open f ∷ s)) y
     → y ≡ u ∷ w → beginning u ≡ at_static → head_continuation w ≢ draws (by_select colons) → 1 ≤ room
-    → Leads room level (λ s. holds f s) x (λ s. holds (instance_of_static f tt) s) w
-static_instance_reads {room} {level} {x} {y} {w} f u near opens is begins alone deep =
+    → Leads room least (λ s. holds f s) x (λ s. holds (instance_of_static f tt) s) w
+static_instance_reads {room} {least} {x} {y} {w} f u near opens is begins alone deep =
     leads (λ s. expects (instance_of_open f ∷ s)) opens
     (leads (λ s. past_static (instance_of_open f ∷ s)) (move u is (λ s g. ap (λ b. started b (instance_of_open f ∷ s)) begins) (λ n s g at. omega arith))
     (static_ends f alone))
 
-pub instance_fails : {room level : ℕ} {x w : List Symbol} (tokens : List Token) (at behind : ℕ) (f : Form) (e : Stop) → at ≤ behind → level ≤ 36 → Leads room level (λ s. holds f s) x (λ s. expects (instance_of_open f ∷ s)) w
-    → Fails room 200 (λ s. expects s) w tokens behind e → Fails room level (λ s. holds f s) x tokens at e
+pub instance_fails : {room least : ℕ} {x w : List Symbol} (tokens : List Token) (at behind : ℕ) (f : Form) (e : Stop) → at ≤ behind → least ≤ 36 → Leads room least (λ s. holds f s) x (λ s. expects (instance_of_open f ∷ s)) w
+    → Fails room top (λ s. expects s) w tokens behind e → Fails room least (λ s. holds f s) x tokens at e
 instance_fails tokens at behind f (Syntax k) ahead near opens r = record {
   halts = leads_halts (λ s. expects (instance_of_open f ∷ s)) opens (record { same = λ n s whole g is. r.halts.same n (instance_of_open f ∷ s) (inr (omega arith), whole) (omega arith) (omega arith) });
   ahead = omega (arith, r.ahead);
@@ -224,10 +225,10 @@ instance_fails tokens at behind f (TooDeep k) ahead near opens r = record {
 }
 instance_fails tokens at behind f NoMemory ahead near opens r = tt
 
-pub instance_rests : (e : Form) (v : List Symbol) → ends e ≡ 36 → Rests 50 (ends e) v
-instance_rests e v is = instance_by (rests_same 50 v)
+pub instance_rests : (e : Form) (v : List Symbol) → ends e ≡ 36 → Rests free (ends e) v
+instance_rests e v is = instance_by (rests_same free v)
   where
-    instance_by : Rests 50 50 v → Rests 50 (ends e) v
+    instance_by : Rests free free v → Rests free (ends e) v
     instance_by (inl h) = inl h
     instance_by (inr h) = inr (omega arith)
 
@@ -241,9 +242,9 @@ no_operand_in : (n : ℕ) (f : Form) (s : OpenForms) (v : List Symbol) → NoOpe
 no_operand_in n f s [] h = refl
 no_operand_in n f s (t ∷ w) h = sticks n (expects (instance_of_open f ∷ s)) t w (no_operand_by (beginning t) f s h)
 
-pub no_operand : {room level : ℕ} {x y : List Symbol} (f : Form) → Leads room level (λ s. holds f s) x (λ s. expects (instance_of_open f ∷ s)) y → NoOperand (head_beginning y)
-    → Halts false room level (λ s. holds f s) x y
-no_operand {room} {level} {x} {y} f opens h =
+pub no_operand : {room least : ℕ} {x y : List Symbol} (f : Form) → Leads room least (λ s. holds f s) x (λ s. expects (instance_of_open f ∷ s)) y → NoOperand (head_beginning y)
+    → Halts false room least (λ s. holds f s) x y
+no_operand {room} {least} {x} {y} f opens h =
     leads_halts (λ s. expects (instance_of_open f ∷ s)) opens (record { same = λ n s whole g is. no_operand_in n f s y h })
 
 -- ---- notes

@@ -1,15 +1,7 @@
-pub mod Moves
-pub mod Productions
-pub mod Enters
-pub mod Fails
-pub mod Trails
 pub mod Joins
 pub mod Founds
-pub mod Listings
-pub mod ListNotes
 pub mod Pendings
-pub mod Makes
-pub mod Heads
+pub mod Onwards
 pub mod Depths
 pub mod Walked
 pub mod Wholes

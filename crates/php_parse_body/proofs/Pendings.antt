@@ -2,13 +2,13 @@
 use Rattle.std.proofs.Common.{◌≡◌, ◌≤◌, ◌<◌, ℕ, suc, min, true, Result, Ok, Err, List, [], ◌∷◌, ◌++◌, length, refl, sym, ◌∙◌, ap, subst, arith, inr}
 use Rattle.php_token.specs.Token.{Token}
 use Rattle.php_ast.specs.Symbol.{Symbol}
-use Rattle.php_ast.specs.expression.Proper.{edge, ends, right}
+use Rattle.php_ast.specs.expression.Proper.{edge, ends, right, free}
 use Rattle.php_ast.specs.expression.View.{view}
 use Rattle.php_grammar.specs.expression.Role.{ends_yield}
 use Rattle.php_grammar.specs.expression.Laws.{head_continuation}
 use Rattle.php_grammar.specs.expression.Machine.{OpenForms, State, expects, holds, completed}
 use Rattle.php_reader.specs.declared.fail.Stop.{Stop}
-use Rattle.php_parse_body.specs.declared.read.Read.{Read}
+use Rattle.php_parse_operands.specs.declared.read.Read.{Read}
 use Rattle.php_parse_body.specs.declared.pending.Between.{Between}
 use Rattle.php_parse_body.specs.declared.pending.Between.TheVariants as between
 use Rattle.php_parse_body.specs.declared.pending.Pending.{Pending}
@@ -16,34 +16,34 @@ use Rattle.php_parse_body.specs.declared.pending.Onward.{Onward}
 use Rattle.php_parse_body.specs.declared.pending.Onward.TheVariants as onward
 use Rattle.php_parse_body.specs.BetweenView.{row_between}
 use Rattle.php_reader.specs.Seen.{rest}
-use Rattle.php_parse_body.specs.Walk.{Leads, Rests}
-use Rattle.php_parse_body.specs.Answer.{Fails, Found}
+use Rattle.php_parse_operands.specs.Walk.{Leads, Rests}
+use Rattle.php_parse_operands.specs.Answer.{Fails, Found}
 use Rattle.php_parse_body.specs.Climb.{Completes, Waits, LeadsOn, Pends}
-use Rattle.php_parse_body.proofs.Moves.{leads, weaken}
+use Rattle.php_parse_operands.proofs.Moves.{leads, weaken}
 use Rattle.php_parse_body.proofs.Joins.{operator_reads, operator_rests, right_bounds}
-use Rattle.php_parse_body.proofs.Fails.{later, within}
+use Rattle.php_parse_operands.proofs.Fails.{later, within}
 use Rattle.php_parse_body.proofs.Founds.{behind}
 
-pub row_bounds : (b : Between) → (0 < right (row_between b)) × (right (row_between b) ≤ 50)
-row_bounds (between.Joins op) = let b = right_bounds op in (b.0, b.1)
+pub row_bounds : (b : Between) → (0 < right (row_between b)) × (right (row_between b) ≤ free)
+row_bounds (between.Binary op) = let b = right_bounds op in (b.0, b.1)
 row_bounds between.ShortChoice = (omega arith, omega arith)
 row_bounds (between.Choice middle) = (omega arith, omega arith)
 
 -- an operator that waits, and its right side
-pub closes : {room level : ℕ} {from : OpenForms → State} {w : List Symbol} (tokens : List Token) (start at next : ℕ) (p : Pending) (right_side r : Read) → level ≤ 50 → at ≤ next
-    → Waits room level from w tokens start p next → Found room (right (row_between p.between)) (right (row_between p.between)) (λ s. expects s) (rest tokens next) tokens next next right_side
-    → Completes p right_side r → Found room level 50 from w tokens start at r
-closes {room} {level} {from} {w} tokens start at next p right_side r low ahead a f c =
+pub closes : {room least : ℕ} {from : OpenForms → State} {w : List Symbol} (tokens : List Token) (start at next : ℕ) (p : Pending) (right_side r : Read) → least ≤ free → at ≤ next
+    → Waits room least from w tokens start p next → Found room (right (row_between p.between)) (right (row_between p.between)) (λ s. expects s) (rest tokens next) tokens next next right_side
+    → Completes p right_side r → Found room least free from w tokens start at r
+closes {room} {least} {from} {w} tokens start at next p right_side r low ahead a f c =
     let b = row_bounds p.between in
     let q = a.shown (view right_side.expr) f.form right_side.next f.spans in
     record {
       form = completed a.form f.form;
       spans = record { shown = c.shown ∙ q.shown; sized = q.sized ∙ sym c.next_is };
-      reads = subst (λ k. Leads room level from w (λ s. holds (completed a.form f.form) s) (rest tokens k)) (sym c.next_is)
-          (operator_reads a.form f.form room (right (row_between p.between)) low (omega (arith, b.0, a.least_is)) (omega (arith, b.1, a.least_is)) (sym a.least_is) (λ h. a.arrow) (λ d. omega (arith, a.as_deep d)) a.reads f.reads f.rests);
+      reads = subst (λ k. Leads room least from w (λ s. holds (completed a.form f.form) s) (rest tokens k)) (sym c.next_is)
+          (operator_reads a.form f.form room (right (row_between p.between)) low (omega (arith, b.0, a.right_is)) (omega (arith, b.1, a.right_is)) (sym a.right_is) (λ h. a.arrow) (λ d. omega (arith, a.as_deep d)) a.reads f.reads f.rests);
       edge_is = a.ends_is f.form ∙ ap (min (edge (row_between p.between))) f.edge_is ∙ sym c.edge_is;
-      rests = subst (λ k. Rests 50 (ends (completed a.form f.form)) (rest tokens k)) (sym c.next_is)
-          (operator_rests a.form f.form (right (row_between p.between)) (rest tokens right_side.next) (omega (arith, b.0, a.least_is)) (omega (arith, b.1, a.least_is)) (sym a.least_is) f.rests);
+      rests = subst (λ k. Rests free (ends (completed a.form f.form)) (rest tokens k)) (sym c.next_is)
+          (operator_rests a.form f.form (right (row_between p.between)) (rest tokens right_side.next) (omega (arith, b.0, a.right_is)) (omega (arith, b.1, a.right_is)) (sym a.right_is) f.rests);
       bare = λ h. subst (λ k. ends_yield (head_continuation (rest tokens k)) ≡ true) (sym c.next_is) (f.bare (sym (a.bare_is f.form) ∙ h));
       ahead = omega (arith, f.ahead, c.next_is);
       within = omega (arith, f.within, c.next_is);
@@ -51,8 +51,8 @@ closes {room} {level} {from} {w} tokens start at next p right_side r low ahead a
     }
 
 -- among operators of more powers
-pub opened : {room : ℕ} (tokens : List Token) (at level : ℕ) (r : Read) → level ≤ 50 → Found room 50 50 (λ s. expects s) (rest tokens at) tokens at at r → Found room level 50 (λ s. expects s) (rest tokens at) tokens at at r
-opened tokens at level r low f = record {
+pub opened : {room : ℕ} (tokens : List Token) (at least : ℕ) (r : Read) → least ≤ free → Found room free free (λ s. expects s) (rest tokens at) tokens at at r → Found room least free (λ s. expects s) (rest tokens at) tokens at at r
+opened tokens at least r low f = record {
   form = f.form;
   spans = f.spans;
   reads = weaken low f.reads;
@@ -65,27 +65,27 @@ opened tokens at level r low f = record {
 }
 
 -- where no operator goes on
-pub settled : {room : ℕ} (tokens : List Token) (at level : ℕ) (r : Read) → (Rests 50 r.edge (rest tokens r.next) → Rests level r.edge (rest tokens r.next)) → Found room level 50 (λ s. expects s) (rest tokens at) tokens at at r
-    → Found room level level (λ s. expects s) (rest tokens at) tokens at at r
-settled tokens at level r sees f = record {
+pub settled : {room : ℕ} (tokens : List Token) (at least : ℕ) (r : Read) → (Rests free r.edge (rest tokens r.next) → Rests least r.edge (rest tokens r.next)) → Found room least free (λ s. expects s) (rest tokens at) tokens at at r
+    → Found room least least (λ s. expects s) (rest tokens at) tokens at at r
+settled tokens at least r sees f = record {
   form = f.form;
   spans = f.spans;
   reads = f.reads;
   edge_is = f.edge_is;
-  rests = subst (λ k. Rests 50 k (rest tokens r.next) → Rests level k (rest tokens r.next)) (sym f.edge_is) sees f.rests;
+  rests = subst (λ k. Rests free k (rest tokens r.next) → Rests least k (rest tokens r.next)) (sym f.edge_is) sees f.rests;
   bare = f.bare;
   ahead = f.ahead;
   within = f.within;
   deep = f.deep;
 }
 
-pub waits_behind : {room level : ℕ} {from : OpenForms → State} {x w : List Symbol} (tokens : List Token) (start : ℕ) (mid : OpenForms → State) (p : Pending) (next : ℕ)
-    → Leads room level from x mid w → Waits room level mid w tokens start p next → Waits room level from x tokens start p next
+pub waits_behind : {room least : ℕ} {from : OpenForms → State} {x w : List Symbol} (tokens : List Token) (start : ℕ) (mid : OpenForms → State) (p : Pending) (next : ℕ)
+    → Leads room least from x mid w → Waits room least mid w tokens start p next → Waits room least from x tokens start p next
 waits_behind tokens start mid p next a h = record {
   form = h.form;
   reads = leads mid a h.reads;
-  level_is = h.level_is;
   least_is = h.least_is;
+  right_is = h.right_is;
   as_deep = h.as_deep;
   arrow = h.arrow;
   shown = h.shown;
@@ -95,40 +95,40 @@ waits_behind tokens start mid p next a h = record {
   within = h.within;
 }
 
-pub onward_behind : {room level : ℕ} {from : OpenForms → State} {x w : List Symbol} (tokens : List Token) (start at place : ℕ) (mid : OpenForms → State) (r : Result Onward Stop) → at ≤ place
-    → Leads room level from x mid w → LeadsOn room level mid w tokens start place r → LeadsOn room level from x tokens start at r
-onward_behind tokens start at place mid (Ok (onward.Behind r)) ahead a h = behind 50 tokens start at place mid (Ok r) ahead a h
+pub onward_behind : {room least : ℕ} {from : OpenForms → State} {x w : List Symbol} (tokens : List Token) (start at place : ℕ) (mid : OpenForms → State) (r : Result Onward Stop) → at ≤ place
+    → Leads room least from x mid w → LeadsOn room least mid w tokens start place r → LeadsOn room least from x tokens start at r
+onward_behind tokens start at place mid (Ok (onward.Behind r)) ahead a h = behind free tokens start at place mid (Ok r) ahead a h
 onward_behind tokens start at place mid (Ok (onward.Inside p next)) ahead a h = (waits_behind tokens start mid p next a h.0, omega (arith, h.1))
 onward_behind tokens start at place mid (Err e) ahead a h = later tokens at place mid e ahead a h
 
 -- ---- lists of them
 
-pub pends_push : (room level : ℕ) (tokens : List Token) (at : ℕ) (ps : List Pending) (p : Pending) (inner inner_at next : ℕ) → Pends room level tokens at ps inner inner_at
-    → Waits room inner (λ s. expects s) (rest tokens inner_at) tokens inner_at p next → Pends room level tokens at (ps ++ p ∷ []) (right (row_between p.between)) next
-pends_push room level tokens at [] p inner inner_at next h waits =
-    record { next = next; waits = subst (λ k. Waits room level (λ s. expects s) (rest tokens k) tokens k p next) (sym h.1) (subst (λ k. Waits room k (λ s. expects s) (rest tokens inner_at) tokens inner_at p next) (sym h.0) waits); more = (refl, refl) }
-pends_push room level tokens at (q ∷ ps) p inner inner_at next h waits =
+pub pends_push : (room least : ℕ) (tokens : List Token) (at : ℕ) (ps : List Pending) (p : Pending) (inner inner_at next : ℕ) → Pends room least tokens at ps inner inner_at
+    → Waits room inner (λ s. expects s) (rest tokens inner_at) tokens inner_at p next → Pends room least tokens at (ps ++ p ∷ []) (right (row_between p.between)) next
+pends_push room least tokens at [] p inner inner_at next h waits =
+    record { next = next; waits = subst (λ k. Waits room least (λ s. expects s) (rest tokens k) tokens k p next) (sym h.1) (subst (λ k. Waits room k (λ s. expects s) (rest tokens inner_at) tokens inner_at p next) (sym h.0) waits); more = (refl, refl) }
+pends_push room least tokens at (q ∷ ps) p inner inner_at next h waits =
     record { next = h.next; waits = h.waits; more = pends_push room (right (row_between q.between)) tokens h.next ps p inner inner_at next h.more waits }
 
-pub record Popped (room level : ℕ) (tokens : List Token) (at : ℕ) (ps : List Pending) (p : Pending) (inner inner_at : ℕ) : Type 0 where
+pub record Popped (room least : ℕ) (tokens : List Token) (at : ℕ) (ps : List Pending) (p : Pending) (inner inner_at : ℕ) : Type 0 where
   pub outer_at : ℕ
-  pub pends : Pends room level tokens at ps p.level outer_at
-  pub waits : Waits room p.level (λ s. expects s) (rest tokens outer_at) tokens outer_at p inner_at
+  pub pends : Pends room least tokens at ps p.least outer_at
+  pub waits : Waits room p.least (λ s. expects s) (rest tokens outer_at) tokens outer_at p inner_at
   pub inner_is : right (row_between p.between) ≡ inner
-  pub low : p.level ≤ 50
-  pub some : 1 ≤ p.level
+  pub low : p.least ≤ free
+  pub some : 1 ≤ p.least
 
-pub pends_pop : (room level : ℕ) (tokens : List Token) (at : ℕ) (ps : List Pending) (p : Pending) (inner inner_at : ℕ) → 1 ≤ level → level ≤ 50 → Pends room level tokens at (ps ++ p ∷ []) inner inner_at
-    → Popped room level tokens at ps p inner inner_at
-pends_pop room level tokens at [] p inner inner_at some low h = record {
+pub pends_pop : (room least : ℕ) (tokens : List Token) (at : ℕ) (ps : List Pending) (p : Pending) (inner inner_at : ℕ) → 1 ≤ least → least ≤ free → Pends room least tokens at (ps ++ p ∷ []) inner inner_at
+    → Popped room least tokens at ps p inner inner_at
+pends_pop room least tokens at [] p inner inner_at some low h = record {
   outer_at = at;
-  pends = (sym h.waits.level_is, refl);
-  waits = subst (λ k. Waits room p.level (λ s. expects s) (rest tokens at) tokens at p k) h.more.1 (subst (λ k. Waits room k (λ s. expects s) (rest tokens at) tokens at p h.next) (sym h.waits.level_is) h.waits);
+  pends = (sym h.waits.least_is, refl);
+  waits = subst (λ k. Waits room p.least (λ s. expects s) (rest tokens at) tokens at p k) h.more.1 (subst (λ k. Waits room k (λ s. expects s) (rest tokens at) tokens at p h.next) (sym h.waits.least_is) h.waits);
   inner_is = h.more.0;
-  low = omega (arith, h.waits.level_is);
-  some = omega (arith, h.waits.level_is);
+  low = omega (arith, h.waits.least_is);
+  some = omega (arith, h.waits.least_is);
 }
-pends_pop room level tokens at (q ∷ ps) p inner inner_at some low h =
+pends_pop room least tokens at (q ∷ ps) p inner inner_at some low h =
     let b = row_bounds q.between in
     let r = pends_pop room (right (row_between q.between)) tokens h.next ps p inner inner_at (omega (arith, b.0)) b.1 h.more in
     record {
@@ -141,13 +141,13 @@ pends_pop room level tokens at (q ∷ ps) p inner inner_at some low h =
     }
 
 -- a failure inside them
-pub pends_fail : (room level : ℕ) (tokens : List Token) (at : ℕ) (ps : List Pending) (inner inner_at : ℕ) (e : Stop) → level ≤ 50 → Pends room level tokens at ps inner inner_at
-    → Fails room inner (λ s. expects s) (rest tokens inner_at) tokens inner_at e → Fails room level (λ s. expects s) (rest tokens at) tokens at e
-pends_fail room level tokens at [] inner inner_at e low h f =
-    subst (λ k. Fails room level (λ s. expects s) (rest tokens k) tokens k e) (sym h.1) (subst (λ k. Fails room k (λ s. expects s) (rest tokens inner_at) tokens inner_at e) (sym h.0) f)
-pends_fail room level tokens at (p ∷ ps) inner inner_at e low h f =
+pub pends_fail : (room least : ℕ) (tokens : List Token) (at : ℕ) (ps : List Pending) (inner inner_at : ℕ) (e : Stop) → least ≤ free → Pends room least tokens at ps inner inner_at
+    → Fails room inner (λ s. expects s) (rest tokens inner_at) tokens inner_at e → Fails room least (λ s. expects s) (rest tokens at) tokens at e
+pends_fail room least tokens at [] inner inner_at e low h f =
+    subst (λ k. Fails room least (λ s. expects s) (rest tokens k) tokens k e) (sym h.1) (subst (λ k. Fails room k (λ s. expects s) (rest tokens inner_at) tokens inner_at e) (sym h.0) f)
+pends_fail room least tokens at (p ∷ ps) inner inner_at e low h f =
     let w = h.waits in
-    within tokens at h.next room (right (row_between p.between)) w.form e (omega (arith, w.ahead)) (inr (omega arith)) (omega (arith, w.least_is)) (λ d. omega (arith, w.as_deep d)) w.reads
+    within tokens at h.next room (right (row_between p.between)) w.form e (omega (arith, w.ahead)) (inr (omega arith)) (omega (arith, w.right_is)) (λ d. omega (arith, w.as_deep d)) w.reads
     (pends_fail room (right (row_between p.between)) tokens h.next ps inner inner_at e ((row_bounds p.between).1) h.more f)
 
 pub length_push : (ps new : List Pending) (p : Pending) → new ≡ ps ++ p ∷ [] → length new ≡ suc (length ps)

@@ -4,7 +4,7 @@ use Rattle.std.specs.Prelude.{nat_lt}
 use Rattle.php_ast.specs.Symbol.{Symbol}
 use Rattle.php_grammar.specs.expression.Machine.{Form, OpenForms, State, past_static, past_yield, instance_of_open, advance, halt, halt_yield, is_last, missing_end, or_halt, read_from, Reading}
 use Rattle.php_grammar.specs.expression.Depth.{depth_at, depths_read, noting}
-use Rattle.php_parse_body.specs.Walk.{Outcome, whole, short, deep, outcome_of, outcome, stepped, walk}
+use Rattle.php_parse_operands.specs.Walk.{Outcome, whole, short, deep, outcome_of, outcome, stepped, walk}
 
 abbrev pub AllAtMost : ℕ → List ℕ → Type 0
 AllAtMost n [] = Unit {0}

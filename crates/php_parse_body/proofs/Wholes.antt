@@ -5,6 +5,7 @@ use Rattle.std.proofs.lemmas.Bool.{le-ltb}
 use Rattle.std.proofs.lemmas.List.{length-append}
 use Rattle.std.proofs.Math.Seq.{take-append_seam}
 use Rattle.php_token.specs.declared.kind.Punct.TheVariants as mark
+use Rattle.php_reader.specs.declared.limit.TheConstants.{LEAST_POWER}
 use Rattle.php_ast.specs.Symbol.{Symbol, punct}
 use Rattle.php_ast.specs.expression.Tree.{Class, class_name, class_static, class_found, new, exit, instance_of_static, yield_nothing, thin, colons}
 use Rattle.php_ast.specs.expression.Spelling.{spell}
@@ -17,20 +18,20 @@ use Rattle.php_grammar.specs.expression.Depth.{depth_at, depths_read, noting}
 use Rattle.php_grammar.specs.expression.Laws.{Spells, BeginsExpression, EndsBefore, head_continuation}
 use Rattle.php_grammar.proofs.expression.Appended.{spell_append}
 use Rattle.php_grammar.proofs.expression.LawProofs.{reading_begins, reads_back, unfinished, stops_exactly, nesting_agrees}
-use Rattle.php_parse_body.specs.Walk.{whole, short, deep, outcome_of, outcome, walk, Rests}
+use Rattle.php_parse_operands.specs.Walk.{whole, short, deep, outcome_of, outcome, walk, Rests}
 use Rattle.php_parse_body.proofs.Depths.{AllWithin, SinksAt}
-use Rattle.php_parse_body.proofs.Moves.{sticks, draws_some}
+use Rattle.php_parse_operands.proofs.Moves.{sticks, draws_some}
 use Rattle.php_parse_body.proofs.Walked.{Reads, EndsIn, AllAtMost, walks, halt_unread, outcome_whole, outcome_short}
 
 -- ---- an expression that is over
 
-over_by : (x : Continuation) (f : Form) → (strength_of x < 1) ⊎ (ends f ≤ strength_of x) → goes_on f [] x ≡ None
+over_by : (x : Continuation) (f : Form) → (strength_of x < LEAST_POWER) ⊎ (ends f ≤ strength_of x) → goes_on f [] x ≡ None
 over_by (draws d) f (inl h) = absurd (omega (arith, draws_some d))
 over_by (draws d) f (inr h) = ap (λ b. allowed_if b (opened_by d f [])) (le-ltb (draw_strength d) (ends f) h)
 over_by (closes c) f h = refl
 over_by neither f h = refl
 
-pub over : (n : ℕ) (f : Form) (v : List Symbol) → Rests 1 (ends f) v → walk n (holds f []) v ≡ whole f v
+pub over : (n : ℕ) (f : Form) (v : List Symbol) → Rests LEAST_POWER (ends f) v → walk n (holds f []) v ≡ whole f v
 over n f [] h = refl
 over n f (t ∷ w) h = sticks n (holds f []) t w (over_by (continuation t) f h)
 

@@ -1,6 +1,4 @@
-pub mod Walk
-pub mod Answer
-pub mod ListAnswer
+pub mod Behind
 pub mod Exact
 pub mod BetweenView
 pub mod Climb

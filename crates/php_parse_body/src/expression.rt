@@ -2,29 +2,30 @@
 
 ghost use Rattle.std.specs.Prelude.{◌≡◌, ◌≤◌, ◌<◌, ◌+◌, ◌-◌, ℕ, length};
 ghost use Rattle.php_ast.specs.expression.Proper.{free};
-ghost use Rattle.php_parse_body.specs.Answer.{AnswersHere, AnswersNone, Nests, SeesInfix};
+ghost use Rattle.php_parse_operands.specs.Answer.{AnswersHere, Nests};
+ghost use Rattle.php_parse_body.specs.Behind.{AnswersNone, SeesInfix};
 
-use crate::inner::{Calls, Inner, ReadsInner};
-use crate::parser::Parser;
+use crate::operators::operator;
 use crate::pending::Onward;
-use crate::read::Read;
+use crate::prefixes::first;
 use php_lex::Tokens;
+use php_parse_operands::{Calls, Inner, Parser, Read, ReadsInner};
 use php_reader::look::{next_at, start_at};
-use php_reader::sign::{Infix, Next, Start, infix_strength};
+use php_reader::role::{Infix, Next, Start, infix_strength};
 use php_reader::{Reader, Stop};
 use sqlite_items::Items;
 
 /// The operator at a place that goes on with an expression which is open to what draws less than `edge`, among
-/// operators of a power of at least `level`.
-fn operator_at(tokens: &Tokens, at: usize, level: u8, edge: u8) -> Option<Infix>
-    requires { 1 ≤ level }
-    ensures { SeesInfix tokens.now at level edge result }
+/// operators of a power of at least `least`.
+fn operator_at(tokens: &Tokens, at: usize, least: u8, edge: u8) -> Option<Infix>
+    requires { 1 ≤ least }
+    ensures { SeesInfix tokens.now at least edge result }
 {
-    let Next::Operator(op) = next_at(tokens, at) else {
+    let Next::Infix(op) = next_at(tokens, at) else {
         return None;
     };
     let draws = infix_strength(op);
-    if draws < level || edge <= draws {
+    if draws < least || edge <= draws {
         return None;
     }
     Some(op)
@@ -33,7 +34,7 @@ fn operator_at(tokens: &Tokens, at: usize, level: u8, edge: u8) -> Option<Infix>
 /// Where no level of nesting is left, the first token of an expression is nested too deep.
 fn sunk(tokens: &Tokens, at: usize) -> Stop
     requires { at ≤ length tokens.now }
-    ensures { (level : ℕ) → level ≤ free → AnswersNone level tokens.now at result }
+    ensures { (least : ℕ) → least ≤ free → AnswersNone least tokens.now at result }
 {
     match start_at(tokens, at) {
         Start::Nothing => Stop::Syntax(at),
@@ -41,36 +42,34 @@ fn sunk(tokens: &Tokens, at: usize) -> Stop
     }
 }
 
-impl<'t, R: ReadsInner> Parser<'t, R> {
-    /// The expression that begins at a place, of operators of a power of at least `level`. An operator whose right side
-    /// is as deep as itself waits in a list while that is read.
-    fn climb(&self, at: usize, level: u8) -> Result<Read, Stop>
-        requires within { at ≤ length self.now.reader.tokens.now }
-        requires some { 1 ≤ level }
-        requires small { level ≤ free }
-        ensures { AnswersHere self.now.reader level level at result }
-    {
-        let mut pending = Items::new(self.reader.alloc);
-        let mut inner = level;
-        let mut read = self.first(at)?;
-        loop {
-            match operator_at(self.reader.tokens, read.next, inner, read.edge) {
-                Some(op) => match self.link(read, op, inner)? {
-                    Onward::Behind(longer) => read = longer,
-                    Onward::Inside(outer, next) => {
-                        inner = outer.right();
-                        pending.push(outer)?;
-                        read = self.first(next)?;
-                    }
-                },
-                None => match pending.pop() {
-                    Some(outer) => {
-                        inner = outer.level;
-                        read = outer.completed(self.reader.alloc, read)?;
-                    }
-                    None => return Ok(read),
-                },
-            }
+/// The expression that begins at a place, of operators of a power of at least `least`. An operator whose right side
+/// is as deep as itself waits in a list while that is read.
+fn climb<R: ReadsInner>(parser: &Parser<R>, at: usize, least: u8) -> Result<Read, Stop>
+    requires within { at ≤ length parser.now.reader.tokens.now }
+    requires some { 1 ≤ least }
+    requires small { least ≤ free }
+    ensures { AnswersHere parser.now.reader least least at result }
+{
+    let mut pending = Items::new(parser.reader.alloc);
+    let mut inner = least;
+    let mut read = first(parser, at)?;
+    loop {
+        match operator_at(parser.reader.tokens, read.next, inner, read.edge) {
+            Some(op) => match operator(parser, read, op, inner)? {
+                Onward::Behind(longer) => read = longer,
+                Onward::Inside(outer, next) => {
+                    inner = outer.right();
+                    pending.push(outer)?;
+                    read = first(parser, next)?;
+                }
+            },
+            None => match pending.pop() {
+                Some(outer) => {
+                    inner = outer.least;
+                    read = outer.completed(parser.reader.alloc, read)?;
+                }
+                None => return Ok(read),
+            },
         }
     }
 }
@@ -89,11 +88,11 @@ fn outer<R: ReadsInner + Drop>(
     requires ready { Nests reader.now.room (R.allows inner) (R.gives inner) }
     ensures { AnswersHere reader.entry.now least least at result }
 {
-    Parser {
+    let parser = Parser {
         reader: *reader,
         inner: Inner::new(reader.room, inner),
-    }
-    .climb(at, least)
+    };
+    climb(&parser, at, least)
 }
 
 /// The expression that begins at a place, of operators of a power of at least `least`, with the levels of nesting that

@@ -1,35 +1,34 @@
 // Operators whose right side is still to be read.
 
-ghost use Rattle.std.specs.Prelude.{◌≡◌, ◌≤◌, true, IfOk};
-ghost use Rattle.php_ast.specs.PowerView.{row_view};
-ghost use Rattle.php_ast.specs.expression.Proper.{edge, right};
+ghost use Rattle.std.specs.Prelude.{◌≡◌, ◌<◌, true, IfOk};
+ghost use Rattle.php_ast.specs.expression.Proper.{edge, free, right};
 ghost use Rattle.php_ast.specs.expression.View.{view};
 ghost use Rattle.php_build.specs.Flat.{is_flat};
-ghost use Rattle.php_parse_body.specs.BetweenView.{are_flat_sides, closed_view, row_between};
+ghost use Rattle.php_parse_body.specs.BetweenView.{are_flat_sides, between_view, row_between};
 
-use crate::read::Read;
 use php_ast::{Binary, Expr, Grouping, Link, Row, row_of, row_of_choice};
-use php_build::build::{joined, linked};
+use php_build::build::{binary_expr, link_expr};
+use php_parse_operands::Read;
 use sqlite_items::Boxed;
 use std::alloc::{AllocError, Global};
 
 /// What stands between the two sides of an operator.
 #[derive(Drop)]
 pub(crate) enum Between {
-    Joins(Binary),
+    Binary(Binary),
     /// `?:`
     ShortChoice,
     /// `?`, an expression and `:`
     Choice(Boxed<Expr>),
 }
 
-/// An operator with its left side. It stands among operators of a power of at least `level`, and its right side is no
+/// An operator with its left side. It stands among operators of a power of at least `least`, and its right side is no
 /// deeper than its left one.
 #[derive(Drop)]
 pub(crate) struct Pending {
     pub(crate) left: Expr,
     pub(crate) between: Between,
-    pub(crate) level: u8,
+    pub(crate) least: u8,
     ghost flat: { are_flat_sides left between ≡ true },
 }
 
@@ -44,8 +43,8 @@ pub(crate) enum Onward {
 
 /// The least power of an operator in the right side of one with this row.
 pub(crate) fn right_of(row: Row) -> u8
-    requires { row.power ≤ 49 }
-    ensures { result ≡ right (row_view row) }
+    requires { row.power < free }
+    ensures { result ≡ right row }
 {
     match row.grouping {
         Grouping::ToRight => row.power,
@@ -55,8 +54,8 @@ pub(crate) fn right_of(row: Row) -> u8
 
 /// What must be more than the power of an operator that follows one with this row.
 pub(crate) fn edge_of(row: Row) -> u8
-    requires { row.power ≤ 49 }
-    ensures { result ≡ edge (row_view row) }
+    requires { row.power < free }
+    ensures { result ≡ edge row }
 {
     match row.grouping {
         Grouping::ToLeft => row.power + 1,
@@ -66,26 +65,31 @@ pub(crate) fn edge_of(row: Row) -> u8
 
 /// The row of an operator.
 fn row_at(between: &Between) -> Row
-    ensures row { row_view result ≡ row_between between.now }
-    ensures small { result.power ≤ 49 }
+    ensures row { result ≡ row_between between.now }
+    ensures small { result.power < free }
 {
     match between {
-        Between::Joins(op) => row_of(*op),
+        Between::Binary(op) => row_of(*op),
         Between::ShortChoice | Between::Choice(_) => row_of_choice(),
     }
 }
 
 /// An operator between its two sides.
-fn closed(alloc: Global, left: Expr, between: Between, right: Expr) -> Result<Expr, AllocError>
+fn between_expr(
+    alloc: Global,
+    left: Expr,
+    between: Between,
+    right: Expr,
+) -> Result<Expr, AllocError>
     requires sides { are_flat_sides left between ≡ true }
     requires right { is_flat right ≡ true }
-    ensures shown { IfOk result (λ e. view e ≡ closed_view between (view left) (view right)) }
+    ensures shown { IfOk result (λ e. view e ≡ between_view between (view left) (view right)) }
     ensures flat { IfOk result (λ e. is_flat e ≡ true) }
 {
     match between {
-        Between::Joins(op) => joined(alloc, op, left, right),
-        Between::ShortChoice => linked(alloc, left, Link::ShortChoice(right)),
-        Between::Choice(middle) => linked(alloc, left, Link::Choice(middle.into_inner(), right)),
+        Between::Binary(op) => binary_expr(alloc, op, left, right),
+        Between::ShortChoice => link_expr(alloc, left, Link::ShortChoice(right)),
+        Between::Choice(middle) => link_expr(alloc, left, Link::Choice(middle.into_inner(), right)),
     }
 }
 
@@ -106,13 +110,13 @@ impl Pending {
         let Pending {
             left,
             between,
-            level: _,
+            least: _,
         } = self;
         let edge = edge_of(row_at(&between));
         Ok(Read {
             edge: edge.min(right.edge),
             next: right.next,
-            expr: closed(alloc, left, between, right.expr)?,
+            expr: between_expr(alloc, left, between, right.expr)?,
         })
     }
 }

@@ -9,10 +9,10 @@ use Rattle.php_ast.specs.declared.expression.Suffix.TheVariants as suffix
 use Rattle.php_ast.specs.declared.expression.Named.TheVariants as arrow
 use Rattle.php_ast.specs.declared.expression.Link.{Link}
 use Rattle.php_ast.specs.declared.expression.Link.TheVariants as link
-use Rattle.php_ast.specs.Power.{binary_row, choice_row}
+use Rattle.php_ast.specs.Power.{is_left, binary_row, choice_row}
 use Rattle.php_ast.specs.expression.Tree.{Tree, none}
 use Rattle.php_ast.specs.expression.View.{Note, view, with_suffix, with_suffixes, with_link, with_links}
-use Rattle.php_build.specs.Flat.{shape, unchained, is_run_top, is_left, suffix_flat, link_row, link_flat, has_power}
+use Rattle.php_build.specs.Flat.{shape, unchained, is_run_top, suffix_flat, link_row, link_flat, has_power}
 use Rattle.php_parse_body_laws.proofs.Layers.{in_suffix, in_link, two_same}
 use Rattle.php_parse_body_laws.proofs.Unview.{Built, chained, running, apart, close, top_of, suffixed, going_on, linked, joined, unview}
 use Rattle.php_parse_body_laws.proofs.Parts.{first_of, second_of, Known, known, back, named_back, member_back, arguments_back}

@@ -12,10 +12,10 @@ use Rattle.php_ast.specs.declared.expression.Argument.{Argument}
 use Rattle.php_ast.specs.declared.expression.Suffix.{Suffix}
 use Rattle.php_ast.specs.declared.expression.Class.{Class}
 use Rattle.php_ast.specs.declared.expression.Link.{Link}
-use Rattle.php_ast.specs.Power.{binary_row}
+use Rattle.php_ast.specs.Power.{is_left, binary_row}
 use Rattle.php_ast.specs.expression.Tree.{Tree, none, no_piece}
 use Rattle.php_ast.specs.expression.View.{Note, view, view_step}
-use Rattle.php_build.specs.Flat.{Top, chain, Shape, shape, shape_step, unchained, is_run_top, is_left, class_flat, argument_flat, suffix_flat, link_row, link_flat, has_power}
+use Rattle.php_build.specs.Flat.{Top, chain, Shape, shape, shape_step, unchained, is_run_top, class_flat, argument_flat, suffix_flat, link_row, link_flat, has_power}
 use Rattle.php_parse_body_laws.proofs.Layers.{in_class, in_argument, in_suffix, in_link, in_node, node_same, two_same}
 use Rattle.php_parse_body_laws.proofs.Unview.{apart, joined, close, top_of, unview}
 use Rattle.php_parse_body_laws.proofs.Parts.{first_of, second_of, Back, IsKept, Known, known, back, member_back, pieces_back, items_back, arguments_back, values_back, class_back}

@@ -25,12 +25,12 @@ use Rattle.php_ast.specs.declared.expression.ClassStep.{ClassStep}
 use Rattle.php_ast.specs.declared.expression.ClassStep.TheVariants as class_step
 use Rattle.php_ast.specs.declared.expression.Link.{Link}
 use Rattle.php_ast.specs.declared.expression.Link.TheVariants as link
-use Rattle.php_ast.specs.Power.{binary_row, choice_row}
+use Rattle.php_ast.specs.Power.{is_left, binary_row, choice_row}
 use Rattle.php_ast.specs.expression.Tree.{Leaf, variable, int, string, name, magic, Enclosure, parentheses, emptiness, exiting, Listing, array, is_set, Arrow, thin, colons, Setting, by_value, by_reference, Member, named, reserved, held}
 use Rattle.php_ast.specs.expression.Tree.{Tree, leaf, template, enclosed, listed, exit, exit_empty, static_member, append, index, selected, computed, call, new, new_with, prefix, count, binary, instance_of, instance_of_static, choice, short_choice, assign, yield_nothing, yield_value, yield_pair}
 use Rattle.php_ast.specs.expression.Tree.{Items, none, and, skip, Lead, plain, reference, spread, keyed, keyed_reference, Pieces, no_piece, bytes, value, Class, class_name, class_static, class_found, Steps, from, step_property, step_index}
 use Rattle.php_ast.specs.expression.View.{Note}
-use Rattle.php_build.specs.Flat.{Top, chain, run, other, is_left}
+use Rattle.php_build.specs.Flat.{Top, chain, run, other}
 
 -- ---- an expression that may go on
 

@@ -9,9 +9,9 @@
 #![tactic(auto)]
 
 mod answer;
+mod characters;
 mod printer;
 mod shapes;
-mod signs;
 
 use answer::answer_of;
 use php_cases::{Subject, run};

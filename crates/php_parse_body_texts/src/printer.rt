@@ -3,7 +3,10 @@
 // A run stands in `{` and `}`, each other operator with its operands in `<` and `>`, and so does the head of a chain that
 // might end with a suffix of its own. A name of a member that is spelled as a keyword has a `!` behind it.
 
-use crate::signs::{array_opening, assign_sign, binary_sign, count_sign, magic_word, prefix_sign};
+use crate::characters::{
+    array_opening, assign_characters, binary_characters, count_characters, magic_word,
+    prefix_characters,
+};
 use php_ast::{Argument, Class, ClassStep, Expr, Item, Link, Member, Named, Piece, Suffix, Word};
 use php_value::Text;
 use std::alloc::{AllocError, Global};
@@ -101,7 +104,7 @@ impl Printer {
             Expr::Array(_, form, items) => {
                 self.items(array_opening(*form), items.as_slice(), depth)
             }
-            Expr::IsSet(_, values) => self.isset(values.as_slice(), depth),
+            Expr::IsSet(_, values) => self.is_set(values.as_slice(), depth),
             Expr::Empty(_, inside) => self.around("empty(", inside.get(), ")", depth),
             Expr::Exit(_) => self.put("exit"),
             Expr::ExitEmpty(_) => self.put("exit()"),
@@ -112,20 +115,28 @@ impl Printer {
             Expr::NewWith(_, class, arguments) => {
                 self.class_with(class.get(), arguments.as_slice(), depth)
             }
-            Expr::Prefix(_, op, operand) => self.prefix(prefix_sign(*op), operand.get(), depth),
-            Expr::Count(operand, count) => self.counted(operand.get(), count_sign(*count), depth),
+            Expr::Prefix(_, op, operand) => self.prefix(
+                prefix_characters(*op),
+                operand.get(),
+                depth,
+            ),
+            Expr::Count(operand, count) => self.behind(
+                operand.get(),
+                count_characters(*count),
+                depth,
+            ),
             Expr::Run(first, links) => self.run(first.get(), links.as_slice(), depth),
             Expr::Binary(op, left, right) => {
-                self.pair(left.get(), binary_sign(*op), right.get(), depth)
+                self.pair(left.get(), binary_characters(*op), right.get(), depth)
             }
             Expr::InstanceOf(left, class) => {
                 self.pair(left.get(), "instanceof", class.get(), depth)
             }
             Expr::InstanceOfStatic(left, _) => {
-                self.counted(left.get(), "instanceof static", depth)
+                self.behind(left.get(), "instanceof static", depth)
             }
             Expr::Assign(op, target, value) => {
-                self.pair(target.get(), assign_sign(*op), value.get(), depth)
+                self.pair(target.get(), assign_characters(*op), value.get(), depth)
             }
             Expr::AssignReference(target, source) => {
                 self.pair(target.get(), "=&", source.get(), depth)
@@ -152,16 +163,16 @@ impl Printer {
     // ---- operators
 
     #[cycle(printing)]
-    fn prefix(&mut self, sign: &str, operand: &Expr, depth: usize) -> Result<(), AllocError> {
+    fn prefix(&mut self, characters: &str, operand: &Expr, depth: usize) -> Result<(), AllocError> {
         self.put("<")?;
-        self.put(sign)?;
+        self.put(characters)?;
         self.around(" ", operand, ">", depth)
     }
 
     #[cycle(printing)]
-    fn counted(&mut self, operand: &Expr, sign: &str, depth: usize) -> Result<(), AllocError> {
+    fn behind(&mut self, operand: &Expr, characters: &str, depth: usize) -> Result<(), AllocError> {
         self.around("<", operand, " ", depth)?;
-        self.put(sign)?;
+        self.put(characters)?;
         self.put(">")
     }
 
@@ -169,12 +180,12 @@ impl Printer {
     fn pair(
         &mut self,
         left: &Expr,
-        sign: &str,
+        characters: &str,
         right: &Expr,
         depth: usize,
     ) -> Result<(), AllocError> {
         self.around("<", left, " ", depth)?;
-        self.put(sign)?;
+        self.put(characters)?;
         self.around(" ", right, ">", depth)
     }
 
@@ -198,7 +209,7 @@ impl Printer {
         match link {
             Link::Operator(op, right) => {
                 self.put(" ")?;
-                self.put(binary_sign(*op))?;
+                self.put(binary_characters(*op))?;
                 self.around(" ", right, "", depth)
             }
             Link::Choice(middle, right) => {
@@ -258,7 +269,7 @@ impl Printer {
     }
 
     #[cycle(printing)]
-    fn isset(&mut self, values: &[Expr], depth: usize) -> Result<(), AllocError> {
+    fn is_set(&mut self, values: &[Expr], depth: usize) -> Result<(), AllocError> {
         self.put("isset(")?;
         let mut is_later = false;
         for value in values {

@@ -11,7 +11,7 @@ use Rattle.php_ast.specs.expression.View.{Note, spot_view}
 use Rattle.php_ast.specs.expression.Placed.{notes_of}
 use Rattle.php_ast.specs.expression.Proper.{may_name}
 use Rattle.php_grammar.specs.expression.Role.{Mark, item_mark, reserved_if}
-use Rattle.php_reader.specs.SignView.{IsMark}
+use Rattle.php_reader.specs.RoleView.{IsMark}
 use Rattle.php_token.specs.declared.kind.TokenKind.TheVariants.{Variable, Keyword}
 use Rattle.php_ast.specs.declared.spot.Name.{Name}
 use Rattle.php_ast.specs.declared.expression.Member.TheVariants as member

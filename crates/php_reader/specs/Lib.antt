@@ -1,3 +1,3 @@
 pub mod Line
 pub mod Seen
-pub mod SignView
+pub mod RoleView

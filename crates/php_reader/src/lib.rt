@@ -6,7 +6,7 @@ pub mod limit;
 pub mod line;
 pub mod look;
 pub mod reader;
-pub mod sign;
+pub mod role;
 
 pub use fail::{ParseFail, Stop};
 pub use line::with_line;

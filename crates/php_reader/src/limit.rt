@@ -19,11 +19,14 @@ pub const OPEN_EXIT: u8 = 105;
 /// What `new` and its class are open to.
 pub const OPEN_NEW: u8 = 80;
 
+/// What a `yield` alone is open to: no operator stands behind it.
+pub const OPEN_YIELD: u8 = 1;
+
 /// What an operand with `++` or `--` behind it is open to.
 pub const OPEN_COUNT: u8 = 50;
 
 /// How tightly `[`, `->` and `::` draw what stands before them.
-pub const SELECTION_STRENGTH: u8 = 100;
+pub const SELECT_STRENGTH: u8 = 100;
 
 /// How tightly `(` draws what stands before it.
 pub const CALL_STRENGTH: u8 = 110;

@@ -9,11 +9,11 @@ ghost use Rattle.php_grammar.specs.expression.Laws.{head_continuation};
 ghost use Rattle.php_ast.specs.expression.Placed.{notes_of};
 ghost use Rattle.php_ast.specs.expression.View.{spot_view};
 ghost use Rattle.php_reader.specs.Seen.{Stands, Shows, rest, Follows, Starts, SeesMark, Tests, IsNamed, ShowsWord, ShowsMember, Words, head_member, head_word, SeesClass, SeesMold};
-ghost use Rattle.php_reader.specs.SignView.{SeesOpening};
+ghost use Rattle.php_reader.specs.RoleView.{SeesOpening};
 ghost use Rattle.php_token.specs.declared.kind.TokenKind.TheVariants.{Int, Variable};
-ghost use Rattle.php_reader.specs.SignView.{next_view, closer_view, start_view, class_kind_view, mold_view};
+ghost use Rattle.php_reader.specs.RoleView.{next_view, closer_view, start_view, class_kind_view, mold_view};
 
-use crate::sign::{
+use crate::role::{
     ClassKind, Closer, Mold, Next, Opening, Start, class_kind, is_reference, is_spread, mold_of,
     next_of, start_of,
 };

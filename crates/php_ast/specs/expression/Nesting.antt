@@ -8,11 +8,13 @@ use Rattle.php_ast.specs.expression.Tree.{Enclosure, parentheses, Listing, array
 use Rattle.php_ast.specs.declared.operator.ArrayForm.TheVariants as form
 use Rattle.php_ast.specs.expression.Tree.{Tree, leaf, template, enclosed, listed, exit, exit_empty, static_member, append, index, selected, computed, call, new, new_with, prefix, count, binary, instance_of, instance_of_static, choice, short_choice, assign, yield_nothing, yield_value, yield_pair}
 use Rattle.php_ast.specs.expression.Tree.{Items, none, and, skip, Lead, plain, reference, spread, keyed, keyed_reference, Pieces, no_piece, bytes, value, Class, class_name, class_static, class_found, Steps, from, step_property, step_index}
-use Rattle.php_ast.specs.Power.{Grouping, to_right, binary_row}
+use Rattle.php_ast.specs.declared.power.Grouping.{Grouping}
+use Rattle.php_ast.specs.declared.power.Grouping.TheVariants.{ToRight}
+use Rattle.php_ast.specs.Power.{binary_row}
 
 -- how much deeper the right side of an operator is
 abbrev pub right_depth : Grouping → ℕ
-right_depth to_right = 1
+right_depth ToRight = 1
 right_depth _ = 0
 
 -- the nesting of the tokens before an enclosed expression, and before a list

@@ -6,7 +6,10 @@ use Rattle.php_token.specs.declared.kind.Keyword.TheVariants as word
 use Rattle.php_ast.specs.expression.Tree.{Listing, array, is_set, Member, named, reserved, held}
 use Rattle.php_ast.specs.expression.Tree.{Tree, leaf, template, enclosed, listed, exit, exit_empty, static_member, append, index, selected, computed, call, new, new_with, prefix, count, binary, instance_of, instance_of_static, choice, short_choice, assign, yield_nothing, yield_value, yield_pair}
 use Rattle.php_ast.specs.expression.Tree.{Items, none, and, skip, Lead, plain, reference, spread, keyed, keyed_reference, Pieces, no_piece, bytes, value, Class, class_name, class_static, class_found, Steps, from, step_property, step_index}
-use Rattle.php_ast.specs.Power.{Grouping, to_left, to_right, ungrouped, Row, binary_row, choice_row, instance_of_row, assign_row, prefix_power, yield_power}
+use Rattle.php_ast.specs.declared.power.Grouping.{Grouping}
+use Rattle.php_ast.specs.declared.power.Grouping.TheVariants.{ToLeft, ToRight, Ungrouped}
+use Rattle.php_ast.specs.declared.power.Row.{Row}
+use Rattle.php_ast.specs.Power.{binary_row, choice_row, instance_of_row, assign_row, prefix_power, yield_power}
 
 -- ---- numbers above all powers
 
@@ -50,18 +53,18 @@ open_yield = 1
 
 -- the least power of the right side of an operator
 abbrev pub right_of : Grouping → ℕ → ℕ
-right_of to_right power = power
-right_of to_left power = suc power
-right_of ungrouped power = suc power
+right_of ToRight power = power
+right_of ToLeft power = suc power
+right_of Ungrouped power = suc power
 
 abbrev pub right : Row → ℕ
 right row = right_of row.grouping row.power
 
 -- An operator may follow only if its power is less than this: an equal one may only in a run.
 abbrev pub edge_of : Grouping → ℕ → ℕ
-edge_of to_left power = suc power
-edge_of to_right power = power
-edge_of ungrouped power = power
+edge_of ToLeft power = suc power
+edge_of ToRight power = power
+edge_of Ungrouped power = power
 
 abbrev pub edge : Row → ℕ
 edge row = edge_of row.grouping row.power

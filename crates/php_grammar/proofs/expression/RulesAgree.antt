@@ -3,10 +3,12 @@ use Rattle.std.proofs.Common.{◌≡◌, ◌≢◌, ◌≤◌, ◌<◌, inl, inr
 use Rattle.std.proofs.lemmas.Bool.Decides.{eqb_tells}
 use Rattle.php_ast.specs.declared.operator.Binary.{Binary}
 use Rattle.php_ast.specs.expression.Tree.{prefix, count, binary, instance_of, instance_of_static, choice, short_choice, assign, yield_nothing, yield_value, yield_pair, leaf}
-use Rattle.php_ast.specs.Power.{Grouping, to_left, to_right, ungrouped, binary_row, prefix_power}
+use Rattle.php_ast.specs.declared.power.Grouping.{Grouping}
+use Rattle.php_ast.specs.declared.power.Grouping.TheVariants.{ToLeft, ToRight, Ungrouped}
+use Rattle.php_ast.specs.Power.{is_left, binary_row, prefix_power}
 use Rattle.php_ast.specs.expression.Proper.{power, ends, edge, edge_of, right_of, Proper}
 use Rattle.php_grammar.specs.expression.Machine.{Form}
-use Rattle.php_grammar.specs.expression.Rules.{ending_powers, AllAbove, IsFree, is_left, chosen, operand_before, RuleRight, RulePrefix, PowersAgree}
+use Rattle.php_grammar.specs.expression.Rules.{ending_powers, AllAbove, IsFree, chosen, operand_before, RuleRight, RulePrefix, PowersAgree}
 use Rattle.php_grammar.proofs.expression.Fill.{prefix_bound, binary_bound, edge_bounds}
 
 -- ---- a tree of a higher power
@@ -47,17 +49,17 @@ edge_left : (op : Binary) → is_left (binary_row op).grouping ≡ true → edge
 edge_left op h = left_by (binary_row op).grouping (binary_row op).power h
   where
     left_by : (g : Grouping) (p : ℕ) → is_left g ≡ true → edge_of g p ≡ suc p
-    left_by to_left p h = refl
-    left_by to_right p h = cc
-    left_by ungrouped p h = cc
+    left_by ToLeft p h = refl
+    left_by ToRight p h = cc
+    left_by Ungrouped p h = cc
 
 edge_other : (op : Binary) → is_left (binary_row op).grouping ≡ false → edge (binary_row op) ≡ (binary_row op).power
 edge_other op h = other_by (binary_row op).grouping (binary_row op).power h
   where
     other_by : (g : Grouping) (p : ℕ) → is_left g ≡ false → edge_of g p ≡ p
-    other_by to_left p h = cc
-    other_by to_right p h = refl
-    other_by ungrouped p h = refl
+    other_by ToLeft p h = cc
+    other_by ToRight p h = refl
+    other_by Ungrouped p h = refl
 
 -- behind a run of the same power
 same_power : (b : Bool) (op : Binary) (l r : Form) → is_left (binary_row op).grouping ≡ b → Proper (binary op l r)
@@ -152,9 +154,9 @@ free_power (short_choice c b) h = absurd h
 free_power _ h = omega arith
 
 on_right : (g : Grouping) (p : ℕ) (r : Form) → p < 50 → (right_of g p ≤ power r) ↔ RuleRight g p r
-on_right to_right p r small = ((λ h. inr h), (λ h. elim h [ inl f ↦ omega (arith, free_power r f) | inr g ↦ g ]))
-on_right to_left p r small = ((λ h. inr (omega arith)), (λ h. elim h [ inl f ↦ omega (arith, free_power r f) | inr g ↦ omega arith ]))
-on_right ungrouped p r small = ((λ h. inr (omega arith)), (λ h. elim h [ inl f ↦ omega (arith, free_power r f) | inr g ↦ omega arith ]))
+on_right ToRight p r small = ((λ h. inr h), (λ h. elim h [ inl f ↦ omega (arith, free_power r f) | inr g ↦ g ]))
+on_right ToLeft p r small = ((λ h. inr (omega arith)), (λ h. elim h [ inl f ↦ omega (arith, free_power r f) | inr g ↦ omega arith ]))
+on_right Ungrouped p r small = ((λ h. inr (omega arith)), (λ h. elim h [ inl f ↦ omega (arith, free_power r f) | inr g ↦ omega arith ]))
 
 on_prefix : (p : ℕ) (e : Form) → p < 50 → (p < power e) ↔ RulePrefix p e
 on_prefix p e small = ((λ h. inr h), (λ h. elim h [ inl f ↦ omega (arith, free_power e f) | inr g ↦ g ]))
@@ -165,9 +167,9 @@ rules_agree l r h = record {
     on_left = on_left (binary_row op).power l (omega (arith, binary_bound op)) h;
     on_right = on_right (binary_row op).grouping (binary_row op).power r (omega (arith, binary_bound op));
   };
-  choice_agrees = record { on_left = on_left 10 l (omega arith) h; on_right = on_right to_left 10 r (omega arith) };
+  choice_agrees = record { on_left = on_left 10 l (omega arith) h; on_right = on_right ToLeft 10 r (omega arith) };
   instance_of_agrees = on_left 36 l (omega arith) h;
-  assign_agrees = on_right to_right 8 r (omega arith);
+  assign_agrees = on_right ToRight 8 r (omega arith);
   prefix_agrees = λ op. on_prefix (prefix_power op) r (omega (arith, prefix_bound op));
   yield_agrees = on_prefix 7 r (omega arith);
 }

@@ -4,14 +4,16 @@ use Rattle.php_ast.specs.declared.operator.ArrayForm.TheVariants as form
 use Rattle.php_ast.specs.expression.Tree.{Enclosure, parentheses, emptiness, exiting, Listing, array, is_set, Setting, by_value, by_reference}
 use Rattle.php_ast.specs.expression.Tree.{Tree, leaf, template, enclosed, listed, exit, exit_empty, static_member, append, index, selected, computed, call, new, new_with, prefix, count, binary, instance_of, instance_of_static, choice, short_choice, assign, yield_nothing, yield_value, yield_pair}
 use Rattle.php_ast.specs.expression.Tree.{Items, none, and, skip, Lead, plain, reference, spread, keyed, keyed_reference, Pieces, no_piece, bytes, value, Class, class_name, class_static, class_found, Steps, from, step_property, step_index}
-use Rattle.php_ast.specs.Power.{Grouping, to_left, to_right, ungrouped, binary_row}
+use Rattle.php_ast.specs.declared.power.Grouping.{Grouping}
+use Rattle.php_ast.specs.declared.power.Grouping.TheVariants.{ToLeft, ToRight, Ungrouped}
+use Rattle.php_ast.specs.Power.{binary_row}
 use Rattle.php_ast.specs.expression.Nesting.{right_depth, opening_nests, list_opening_nests, setting_nests, comma_nests, nests, nests_items, nests_lead, nests_pieces, nests_class, nests_steps}
 use Rattle.php_grammar.proofs.Deepened.{shifted}
 
 right_shift : (g : Grouping) (d k : ℕ) → right_depth g + (d + k) ≡ (right_depth g + d) + k
-right_shift to_left d k = omega arith
-right_shift to_right d k = omega arith
-right_shift ungrouped d k = omega arith
+right_shift ToLeft d k = omega arith
+right_shift ToRight d k = omega arith
+right_shift Ungrouped d k = omega arith
 
 pub one_more : (d k : ℕ) → 1 + (d + k) ≡ (1 + d) + k
 one_more d k = omega arith

@@ -4,7 +4,10 @@ use Rattle.std.specs.Prelude.{◌≤◌, ◌<◌, ◌⊎◌, ◌↔◌, ◌==◌
 use Rattle.php_ast.specs.declared.operator.Binary.{Binary}
 use Rattle.php_ast.specs.declared.operator.Prefix.{Prefix}
 use Rattle.php_ast.specs.expression.Tree.{Tree, prefix, binary, instance_of, instance_of_static, choice, short_choice, assign, yield_nothing, yield_value, yield_pair}
-use Rattle.php_ast.specs.Power.{Grouping, to_left, to_right, Row, binary_row, choice_row, instance_of_row, assign_row, prefix_power, yield_power}
+use Rattle.php_ast.specs.declared.power.Grouping.{Grouping}
+use Rattle.php_ast.specs.declared.power.Grouping.TheVariants.{ToRight}
+use Rattle.php_ast.specs.declared.power.Row.{Row}
+use Rattle.php_ast.specs.Power.{is_left, binary_row, choice_row, instance_of_row, assign_row, prefix_power, yield_power}
 use Rattle.php_ast.specs.expression.Proper.{open_yield, power, FitsLeft, FitsRight, Proper}
 use Rattle.php_grammar.specs.expression.Machine.{Form}
 
@@ -36,10 +39,6 @@ IsFree (choice c a b) = ⊥
 IsFree (short_choice c b) = ⊥
 IsFree _ = Unit {0}
 
-abbrev pub is_left : Grouping → Bool
-is_left to_left = true
-is_left _ = false
-
 abbrev pub same_run : ℕ → Row → Bool
 same_run p row = if is_left row.grouping then p == row.power else false
 
@@ -62,7 +61,7 @@ RuleLeft row l = AllAbove row.power (ending_powers (operand_before row.power l))
 -- The right side is free, or its power is above the operator's, or not below it where operators of
 -- that power group to the right.
 abbrev pub RuleRight : {S : Type 0} → Grouping → ℕ → Tree S → Type 0
-RuleRight to_right p r = IsFree r ⊎ (p ≤ power r)
+RuleRight ToRight p r = IsFree r ⊎ (p ≤ power r)
 RuleRight _ p r = IsFree r ⊎ (p < power r)
 
 -- the operand of a prefix operator

@@ -1,6 +1,6 @@
 use Rattle.std.proofs.Common.{sym, subst}
 use Rattle.php_grammar.specs.expression.Machine.{expects}
-use Rattle.php_parse_body.specs.Answer.{Fails}
+use Rattle.php_parse_operands.specs.Answer.{Fails}
 use Rattle.php_reader.specs.Seen.{rest}
 use Rattle.php_parse_body.proofs.expression.+read_expression.Goals as goal
 

@@ -10,8 +10,8 @@ decreases-around l = 10 * l.depth + 1
 abbrev pub decreases-prefix : goal.decreases-prefix
 decreases-prefix l = 10 * l.depth + 2
 
-abbrev pub decreases-counted : goal.decreases-counted
-decreases-counted l = 10 * l.depth + 2
+abbrev pub decreases-behind : goal.decreases-behind
+decreases-behind l = 10 * l.depth + 2
 
 abbrev pub decreases-pair : goal.decreases-pair
 decreases-pair l = 10 * l.depth + 2
@@ -37,8 +37,8 @@ decreases-items l = 10 * l.depth + 3
 abbrev pub decreases-item : goal.decreases-item
 decreases-item l = 10 * l.depth + 2
 
-abbrev pub decreases-isset : goal.decreases-isset
-decreases-isset l = 10 * l.depth + 3
+abbrev pub decreases-is_set : goal.decreases-is_set
+decreases-is_set l = 10 * l.depth + 3
 
 abbrev pub decreases-arguments : goal.decreases-arguments
 decreases-arguments l = 10 * l.depth + 3

@@ -1,9 +1,0 @@
-use Rattle.std.proofs.Common.{◌-◌, length}
-use Rattle.php_parse_body.specs.ListAnswer.{PiecesSoFar}
-use Rattle.php_parse_body.proofs.parser.Parser.pieces.Given as goal
-
-abbrev pub invariant-loop-items : goal.invariant-loop-items
-invariant-loop-items g l = PiecesSoFar l.self.reader.room l.self.reader.tokens.now l.fn.at l.items l.next
-
-abbrev pub decreases-loop-items : goal.decreases-loop-items
-decreases-loop-items g l = length l.self.reader.tokens.now - l.next

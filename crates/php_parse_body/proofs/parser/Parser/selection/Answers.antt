@@ -1,4 +1,0 @@
-use Rattle.php_parse_body.proofs.parser.Parser.selection.Goals as goal
-
-pub returns : goal.returns
-returns g c = λ f start sized low. c.property.ensures f start sized low

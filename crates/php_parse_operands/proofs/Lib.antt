@@ -1,0 +1,9 @@
+pub mod Moves
+pub mod Productions
+pub mod Enters
+pub mod Fails
+pub mod Trails
+pub mod Listings
+pub mod ListNotes
+pub mod Makes
+pub mod Heads

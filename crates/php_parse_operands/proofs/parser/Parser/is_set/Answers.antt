@@ -1,0 +1,38 @@
+use Rattle.std.proofs.Common.{◌+◌, refl, arith}
+use Rattle.std.proofs.lemmas.Result.{err_from_is_err_and}
+use Rattle.php_parse_operands.proofs.Fails.{later}
+use Rattle.php_ast.specs.expression.Tree.{none, listed, is_set}
+use Rattle.php_grammar.specs.expression.Machine.{past_items, of_list}
+use Rattle.php_parse_operands.proofs.Moves.{leads}
+use Rattle.php_parse_operands.proofs.Listings.{isset_opens, isset_halts}
+use Rattle.php_parse_operands.proofs.ListNotes.{listed_spans}
+use Rattle.php_parse_operands.proofs.parser.Parser.is_set.Goals as goal
+
+pub returns-then-not-sees_paren : goal.returns-then-not-sees_paren
+returns-then-not-sees_paren g c =
+    let o = c.requires.here in
+    record { halts = isset_halts o.token o.stands.is o.role_is c.if-not-sees_paren.ensures c.args.self.now.deep; ahead = omega arith; within = omega (arith, o.stands.within) }
+
+pub returns-in_err-values : goal.returns-in_err-values
+returns-in_err-values g c =
+    let o = c.requires.here in
+    let p = c.if-not-sees_paren.ensures in
+    let q = err_from_is_err_and c.from_residual.result c.from_residual.ensures.1 in
+    rw (q.1, q.2) (later c.args.self.now.reader.tokens.now c.args.at (c.args.at + 1 + 1) (λ s. past_items (of_list is_set) none s) c.in_err-values.field-0.0 (omega arith)
+    (isset_opens o.token p.token o.stands.is o.role_is p.stands.is p.role_is c.args.self.now.deep) c.in_err-values.ensures)
+
+pub returns : goal.returns
+returns g c =
+    let o = c.requires.here in
+    let p = c.if-not-sees_paren.ensures in
+    let r = c.in_ok-values.ensures in
+    record {
+      form = listed tt is_set r.items;
+      spans = listed_spans c.args.self.now.reader.tokens.now is_set _ _ _ r.items c.args.at (c.args.at + 1 + 1) _ c.is_set_expr.ensures.shown c.spot.ensures r.spans (omega arith);
+      reads = leads (λ s. past_items (of_list is_set) none s) (isset_opens o.token p.token o.stands.is o.role_is p.stands.is p.role_is c.args.self.now.deep) r.reads;
+      edge_is = refl;
+      opened = omega arith;
+      no_call = refl;
+      ahead = omega (arith, r.ahead);
+      within = r.within;
+    }

@@ -1,0 +1,319 @@
+// Lists: arguments, the items of arrays and lists, and the values of `isset`.
+
+ghost use Rattle.std.specs.Prelude.{◌≡◌, ◌≢◌, ◌≤◌, ◌<◌, ◌+◌, ◌-◌, ◌++◌, [], ◌∷◌, ℕ, length, true, false, IfOk};
+ghost use Rattle.php_ast.specs.declared.expression.Item.TheVariants.{Missing};
+ghost use Rattle.php_ast.specs.declared.operator.ArrayForm.TheVariants as array_form;
+ghost use Rattle.php_ast.specs.expression.Tree as tree;
+ghost use Rattle.php_grammar.specs.expression.Role as role;
+ghost use Rattle.php_grammar.specs.expression.Role.{beginning, closes, draws};
+ghost use Rattle.php_grammar.specs.expression.Laws.{head_continuation};
+ghost use Rattle.php_ast.specs.expression.View.{view};
+ghost use Rattle.php_parse_operands.specs.Answer.{AnswersLeaf};
+ghost use Rattle.php_parse_operands.specs.ListAnswer.{AnswersArgument, AnswersArguments, AnswersItem, AnswersItems, AnswersKeyed, AnswersValues, closer_in};
+ghost use Rattle.php_build.specs.Flat.{is_flat};
+ghost use Rattle.php_reader.specs.Seen.{Shows, rest};
+ghost use Rattle.php_reader.specs.RoleView.{closer_view};
+
+use crate::inner::ReadsInner;
+use crate::parser::Parser;
+use crate::read::{Entry, Listed, Read, Taken};
+use php_ast::{Argument, ArrayForm, Expr, Item};
+use php_build::build::{array_expr, is_set_expr};
+use php_lex::Tokens;
+use php_reader::Stop;
+use php_reader::limit::{LEAST_POWER, TOP};
+use php_reader::look::{ends_with, sees_ampersand, sees_paren, sees_reference, sees_spread, spot};
+use php_reader::role::Closer;
+use sqlite_items::Items;
+use std::alloc::{AllocError, Global};
+
+/// What ends the items of an array or a list.
+fn closer_of(form: ArrayForm) -> Closer
+    ensures { closer_view result ≡ closer_in form }
+{
+    match form {
+        ArrayForm::Brackets => Closer::Bracket,
+        ArrayForm::Array | ArrayForm::List => Closer::Paren,
+    }
+}
+
+/// The items where a list ends behind a comma, or behind its opening token.
+fn ended(items: Items<Item<Expr>>) -> Result<Items<Item<Expr>>, AllocError>
+    ensures none { items ≡ [] → IfOk result (λ r. r ≡ []) }
+    ensures some { items ≢ [] → IfOk result (λ r. r ≡ items ++ Missing ∷ []) }
+{
+    if items.is_empty() {
+        return Ok(items);
+    }
+    let mut items = items;
+    items.push(Item::Missing)?;
+    Ok(items)
+}
+
+impl<'t, R: ReadsInner> Parser<'t, R> {
+    /// An argument.
+    fn argument(&self, at: usize) -> Result<Entry<Argument<Expr>>, Stop>
+        requires within { at ≤ length self.now.reader.tokens.now }
+        requires no_end { head_continuation (rest self.now.reader.tokens.now at) ≢ closes role.paren }
+        ensures { AnswersArgument self.now.reader at result }
+    {
+        if sees_spread(self.reader.tokens, at) {
+            if self.reader.room == 1 {
+                return Err(Stop::TooDeep(at));
+            }
+            let Read {
+                expr,
+                edge: _,
+                next,
+            } = self.deeper(at + 1, LEAST_POWER)?;
+            return Ok(Entry {
+                item: Argument::Spread(expr),
+                next,
+            });
+        }
+        let Read {
+            expr,
+            edge: _,
+            next,
+        } = self.deeper(at, LEAST_POWER)?;
+        Ok(Entry {
+            item: Argument::Value(expr),
+            next,
+        })
+    }
+
+    /// One argument or more, and the parenthesis behind them.
+    fn some_arguments(&self, at: usize) -> Result<Listed<Argument<Expr>>, Stop>
+        requires within { at ≤ length self.now.reader.tokens.now }
+        requires no_end { head_continuation (rest self.now.reader.tokens.now at) ≢ closes role.paren }
+        ensures { AnswersArguments self.now.reader at result }
+    {
+        let mut items = Items::new(self.reader.alloc);
+        let mut next = at;
+        loop {
+            let entry = self.argument(next)?;
+            items.push(entry.item)?;
+            if ends_with(self.reader.tokens, entry.next, Closer::Paren) {
+                return Ok(Listed {
+                    items,
+                    next: entry.next + 1,
+                });
+            }
+            if !ends_with(self.reader.tokens, entry.next, Closer::Comma) {
+                return Err(Stop::Syntax(entry.next));
+            }
+            next = entry.next + 1;
+            // No argument begins with it, and none is read before this is known.
+            if ends_with(self.reader.tokens, next, Closer::Paren) {
+                return Err(Stop::Syntax(next));
+            }
+        }
+    }
+
+    /// Arguments and the parenthesis behind them.
+    pub(crate) fn arguments(&self, at: usize) -> Result<Listed<Argument<Expr>>, Stop>
+        requires within { at ≤ length self.now.reader.tokens.now }
+        ensures { AnswersArguments self.now.reader at result }
+    {
+        if !ends_with(self.reader.tokens, at, Closer::Paren) {
+            return self.some_arguments(at);
+        }
+        if self.reader.room == 1 {
+            return Err(Stop::TooDeep(at));
+        }
+        Ok(Listed {
+            items: Items::new(self.reader.alloc),
+            next: at + 1,
+        })
+    }
+
+    /// The values of `isset`, and the parenthesis behind them.
+    fn values(&self, at: usize) -> Result<Listed<Expr>, Stop>
+        requires within { at ≤ length self.now.reader.tokens.now }
+        ensures { AnswersValues self.now.reader at result }
+    {
+        let mut items = Items::new(self.reader.alloc);
+        let mut next = at;
+        loop {
+            let value = self.deeper(next, LEAST_POWER)?;
+            items.push(value.expr)?;
+            if ends_with(self.reader.tokens, value.next, Closer::Paren) {
+                return Ok(Listed {
+                    items,
+                    next: value.next + 1,
+                });
+            }
+            if !ends_with(self.reader.tokens, value.next, Closer::Comma) {
+                return Err(Stop::Syntax(value.next));
+            }
+            next = value.next + 1;
+        }
+    }
+
+    /// `isset(..)`
+    pub(crate) fn is_set(&self, at: usize) -> Result<Taken, Stop>
+        requires here { Shows beginning self.now.reader.tokens.now at (role.at_listed tree.is_set) }
+        ensures { AnswersLeaf self.now.reader at result }
+    {
+        let paren = at + 1;
+        if !sees_paren(self.reader.tokens, paren) {
+            return Err(Stop::Syntax(paren));
+        }
+        let values = self.values(paren + 1)?;
+        Ok(Taken {
+            next: values.next,
+            expr: is_set_expr(spot(self.reader.tokens, at), values.items),
+            edge: TOP,
+        })
+    }
+
+    /// An item with a key, from behind its `=>`.
+    fn keyed(&self, at: usize, key: Expr) -> Result<Entry<Item<Expr>>, Stop>
+        requires within { at ≤ length self.now.reader.tokens.now }
+        requires deep { 2 ≤ self.now.reader.room }
+        requires flat { is_flat key ≡ true }
+        ensures { AnswersKeyed (view key) self.now.reader at result }
+    {
+        if sees_ampersand(self.reader.tokens, at) {
+            let Read {
+                expr,
+                edge: _,
+                next,
+            } = self.deeper(at + 1, LEAST_POWER)?;
+            return Ok(Entry {
+                item: Item::KeyedReference(key, expr),
+                next,
+            });
+        }
+        let Read {
+            expr,
+            edge: _,
+            next,
+        } = self.deeper(at, LEAST_POWER)?;
+        Ok(Entry {
+            item: Item::Keyed(key, expr),
+            next,
+        })
+    }
+
+    /// An item that is not missing.
+    fn item(&self, at: usize, form: ArrayForm) -> Result<Entry<Item<Expr>>, Stop>
+        requires within { at ≤ length self.now.reader.tokens.now }
+        requires no_comma { head_continuation (rest self.now.reader.tokens.now at) ≢ closes role.comma }
+        requires no_end { head_continuation (rest self.now.reader.tokens.now at) ≢ closes (closer_in form) }
+        ensures { AnswersItem form self.now.reader at result }
+    {
+        if sees_reference(self.reader.tokens, at) {
+            if self.reader.room == 1 {
+                return Err(Stop::TooDeep(at));
+            }
+            let Read {
+                expr,
+                edge: _,
+                next,
+            } = self.deeper(at + 1, LEAST_POWER)?;
+            return Ok(Entry {
+                item: Item::Reference(expr),
+                next,
+            });
+        }
+        let Read {
+            expr,
+            edge: _,
+            next,
+        } = self.deeper(at, LEAST_POWER)?;
+        if ends_with(self.reader.tokens, next, Closer::DoubleArrow) {
+            return self.keyed(next + 1, expr);
+        }
+        Ok(Entry {
+            item: Item::Value(expr),
+            next,
+        })
+    }
+
+    /// The items of an array or a list, and the token that closes it.
+    fn items(&self, at: usize, form: ArrayForm) -> Result<Listed<Item<Expr>>, Stop>
+        requires within { at ≤ length self.now.reader.tokens.now }
+        ensures { AnswersItems form self.now.reader at result }
+    {
+        let mut items = Items::new(self.reader.alloc);
+        let mut next = at;
+        loop {
+            if ends_with(self.reader.tokens, next, closer_of(form)) {
+                if self.reader.room == 1 {
+                    return Err(Stop::TooDeep(next));
+                }
+                return Ok(Listed {
+                    items: ended(items)?,
+                    next: next + 1,
+                });
+            }
+            if ends_with(self.reader.tokens, next, Closer::Comma) {
+                if self.reader.room == 1 {
+                    return Err(Stop::TooDeep(next));
+                }
+                items.push(Item::Missing)?;
+                next += 1;
+            } else {
+                let entry = self.item(next, form)?;
+                items.push(entry.item)?;
+                if ends_with(self.reader.tokens, entry.next, closer_of(form)) {
+                    return Ok(Listed {
+                        items,
+                        next: entry.next + 1,
+                    });
+                }
+                if !ends_with(self.reader.tokens, entry.next, Closer::Comma) {
+                    return Err(Stop::Syntax(entry.next));
+                }
+                next = entry.next + 1;
+            }
+        }
+    }
+
+    /// `[..]`
+    fn brackets(&self, at: usize) -> Result<Taken, Stop>
+        requires here { Shows beginning self.now.reader.tokens.now at (role.at_listed (tree.array array_form.Brackets)) }
+        ensures { AnswersLeaf self.now.reader at result }
+    {
+        let items = self.items(at + 1, ArrayForm::Brackets)?;
+        Ok(Taken {
+            next: items.next,
+            expr: array_expr(
+                spot(self.reader.tokens, at),
+                ArrayForm::Brackets,
+                items.items,
+            ),
+            edge: TOP,
+        })
+    }
+
+    /// `array(..)` or `list(..)`
+    fn words(&self, at: usize, form: ArrayForm) -> Result<Taken, Stop>
+        requires here { Shows beginning self.now.reader.tokens.now at (role.at_listed (tree.array form)) }
+        requires word { form ≢ array_form.Brackets }
+        ensures { AnswersLeaf self.now.reader at result }
+    {
+        let paren = at + 1;
+        if !sees_paren(self.reader.tokens, paren) {
+            return Err(Stop::Syntax(paren));
+        }
+        let items = self.items(paren + 1, form)?;
+        Ok(Taken {
+            next: items.next,
+            expr: array_expr(spot(self.reader.tokens, at), form, items.items),
+            edge: TOP,
+        })
+    }
+
+    /// An array or a list.
+    pub(crate) fn array(&self, at: usize, form: ArrayForm) -> Result<Taken, Stop>
+        requires here { Shows beginning self.now.reader.tokens.now at (role.at_listed (tree.array form)) }
+        ensures { AnswersLeaf self.now.reader at result }
+    {
+        match form {
+            ArrayForm::Brackets => self.brackets(at),
+            ArrayForm::Array | ArrayForm::List => self.words(at, form),
+        }
+    }
+}

@@ -1,0 +1,36 @@
+// What all productions are methods of.
+
+ghost use Rattle.std.specs.Prelude.{◌≤◌, length};
+ghost use Rattle.php_ast.specs.expression.Proper.{free};
+
+use crate::inner::{Inner, ReadsInner};
+use crate::read::Read;
+use php_reader::{Reader, Stop};
+
+/// Reads parts of expressions. The expressions inside them are read by `inner`.
+#[derive(Drop)]
+pub struct Parser<'t, R: ReadsInner> {
+    pub reader: Reader<'t>,
+    pub inner: Inner<R>,
+    pub ghost deep: { 1 ≤ reader.room },
+    pub ghost below: { reader.room ≤ inner },
+}
+
+impl<'t, R: ReadsInner> Parser<'t, R> {
+    ghost use Rattle.php_parse_operands.specs.Answer.{AnswersInside};
+
+    /// The expression that begins at a place, one level deeper.
+    pub fn deeper(&self, at: usize, least: u8) -> Result<Read, Stop>
+        requires within { at ≤ length self.now.reader.tokens.now }
+        requires some { 1 ≤ least }
+        requires small { least ≤ free }
+        ensures { AnswersInside self.now.reader least at result }
+    {
+        let reader = Reader {
+            room: self.reader.room - 1,
+            alloc: self.reader.alloc,
+            tokens: self.reader.tokens,
+        };
+        self.inner.read(&reader, at, least)
+    }
+}
