@@ -11,8 +11,8 @@ use Rattle.php_grammar.specs.expression.Machine.{Form, State, OpenForms, expects
 use Rattle.php_grammar.specs.expression.Depth.{depth_at}
 
 use Rattle.php_grammar.proofs.expression.LawProofs.{halt_unread}
-use Rattle.php_parse_body.specs.Walk as inner
-use Rattle.php_parse_body.specs.Walk.{walk}
+use Rattle.php_parse_operands.specs.Walk as inner
+use Rattle.php_parse_operands.specs.Walk.{walk}
 use Rattle.php_parse_statement.specs.Walk.{OutcomeOf, short, deep, outcome, stepped, walk_of, sunk, sunk_here, expression_outcome}
 
 -- ---- what halts in front of a symbol looks at that one alone

@@ -16,8 +16,8 @@ use Rattle.php_grammar.specs.statement.Machine.{expected, entered, filled, advan
 use Rattle.php_grammar.specs.statement.Depth.{statement_depth, place_depth, statement_depth_at}
 use Rattle.php_grammar.specs.statement.Reading.{halt_statement, values_rest, head_rest, place_rest, missing_around, completed_around, placed_statement}
 use Rattle.php_grammar.proofs.expression.LawProofs.{halt_unread}
-use Rattle.php_parse_body.specs.Walk as inner
-use Rattle.php_parse_body.specs.Walk.{walk}
+use Rattle.php_parse_operands.specs.Walk as inner
+use Rattle.php_parse_operands.specs.Walk.{walk}
 use Rattle.php_parse_statement.specs.Walk.{OutcomeOf, short, deep, outcome, stepped, walk_statement, Leads, Halts, stopped, sunk, sunk_here, expression_outcome, head_ending, walk_behind}
 use Rattle.php_parse_statement.proofs.Bridge.{Inside, walk_past, passed, bridge}
 use Rattle.php_parse_statement.proofs.Moves.{sticks, sinks, leads, leads_halts, Some_of, lacks_by, some_behind}

@@ -9,20 +9,20 @@ use Rattle.php_ast.specs.expression.Tree.{Tree}
 use Rattle.php_ast.specs.expression.View.{Note, view}
 use Rattle.php_ast.specs.expression.Placed.{size, noted, notes_of}
 use Rattle.php_ast.specs.statement.Tree.{Statement, while, do_while, if_only, if_else, ElseIfs, no_elseif, and_elseif, Body, single, list_behind_colon, Statements, no_statement}
-use Rattle.php_ast.specs.statement.View.{elseifs_from}
+use Rattle.php_ast.specs.statement.View.{elseifs_from, if_view, optional}
 use Rattle.php_ast.specs.statement.Placed.{size_body, noted_body, size_statement, noted_statement, size_statements, noted_statements, size_elseifs, noted_elseifs, size_head}
 use Rattle.php_grammar.specs.Run.{either}
 use Rattle.php_grammar.specs.expression.Role.{paren, is_colon}
 use Rattle.php_grammar.specs.expression.Machine.{Nothing, Form, pick}
 use Rattle.php_grammar.specs.statement.Laws.{head_behind}
-use Rattle.php_grammar.specs.statement.Role.{Behind, by_else, by_elseif, by_while, by_endwhile, by_endfor, by_endforeach, behind, body_strength, Ending, closer}
-use Rattle.php_grammar.specs.statement.Forms.{Loop, while_loop, for_loop, foreach_loop, StatementList, of_loop, OpenStatement, list_open, if_open, elseif_open, else_open, loop_open, do_open, Around, Head, do_head, elseif_head, as_test, StatementState, due_statement, done, due_in_list, past_if, past_loop, looped, completed_statement}
+use Rattle.php_grammar.specs.statement.Role.{Behind, by_else, by_elseif, by_while, by_endwhile, by_endfor, by_endforeach, behind, body_strength, ends_outside, Ending, closer}
+use Rattle.php_grammar.specs.statement.Forms.{Loop, while_loop, for_loop, foreach_loop, StatementList, of_if, of_loop, OpenStatement, list_open, if_open, elseif_open, else_open, loop_open, do_open, Around, Head, do_head, elseif_head, as_test, StatementState, due_statement, done, due_in_list, past_if, past_loop, looped, completed_statement}
 use Rattle.php_grammar.specs.statement.Machine.{begin, filled, headed, listing, list_end, loop_end, before_semicolon, released_bodies, reached_step, form_step, least_strength, past_statement, advance_statement}
 use Rattle.php_grammar.specs.statement.Depth.{statement_depth, begin_depth, form_depth, kept_bodies, depth_past, statement_depth_at}
 use Rattle.php_grammar.specs.statement.Reading.{halt_statement}
 use Rattle.php_reader.specs.Seen.{test}
 use Rattle.php_parse_statement.specs.Answer.{SpansStatement}
-use Rattle.php_parse_statement.specs.FormAnswer.{loop_behind, behind_parts}
+use Rattle.php_parse_statement.specs.FormAnswer.{loop_behind, behind_parts, if_form, size_last}
 use Rattle.php_parse_statement.specs.Parts.{elseif_parts}
 use Rattle.php_parse_statement.specs.Walk.{short, walk_statement, Leads, Halts}
 use Rattle.php_parse_statement.proofs.Moves.{moves, sticks, alike, move, leads}
@@ -83,6 +83,14 @@ loop_other loop b x ss o is h = other_word loop x ss o (λ e. h (e ∙ is))
     other_word (for_loop a b c) _ ss o h = refl
     other_word (foreach_loop e key value) by_endforeach ss o h = absurd (h refl)
     other_word (foreach_loop e key value) _ ss o h = refl
+
+pub end_outside : (loop : Loop) (b : Behind) → loop_behind loop ≡ b → ends_outside b ≡ true
+end_outside loop b is = ap ends_outside (sym is) ∙ own_outside loop
+  where
+    own_outside : (loop : Loop) → ends_outside (loop_behind loop) ≡ true
+    own_outside (while_loop e) = refl
+    own_outside (for_loop a b c) = refl
+    own_outside (foreach_loop e key value) = refl
 
 pub while_spans : (tokens : List Token) (made : Statement Note) (spot : Note) (e : Tree Note) (shown : Body Note) (form : Form) (body : Body Nothing) (at place next : ℕ) → made ≡ while spot e shown → spot ≡ (notes_of tokens).token at
     → e ≡ noted (notes_of tokens) (at + 1 + 1) form → at + 1 + size form + 2 ≡ place → shown ≡ noted_body (notes_of tokens) place body → place + size_body body ≡ next → SpansStatement tokens made (while tt form body) at next
@@ -207,3 +215,43 @@ elseifs_more tokens at place behind parts e a xs new x grown shown sized test_is
     ∙ ap (λ z. and_elseif z (view x.test) (elseif_parts x).body) shown
     ∙ ap (λ z. and_elseif (noted_elseifs (notes_of tokens) at parts) z (elseif_parts x).body) (test_is ∙ ap (λ k. noted (notes_of tokens) k e) (omega arith))
     ∙ ap (and_elseif (noted_elseifs (notes_of tokens) at parts) (noted (notes_of tokens) (at + size_elseifs parts + 2) e)) (body_is ∙ ap (λ k. noted_statement (notes_of tokens) k a) (omega arith))
+
+-- ---- where the parts of an `if` stand
+
+pub parts_shift : (tokens : List Token) (place : ℕ) (parts : ElseIfs Nothing) (xs : ElseIfs Note) (at : ℕ) (a : Statement Nothing) → xs ≡ noted_elseifs (notes_of tokens) place parts → at + size_statement a ≡ place
+    → xs ≡ noted_elseifs (notes_of tokens) (at + size_statement a) parts
+parts_shift tokens place parts xs at a shown is = shown ∙ ap (λ k. noted_elseifs (notes_of tokens) k parts) (sym is)
+
+pub last_shown : (tokens : List Token) (place behind : ℕ) (made : Statement Note) (at : ℕ) (a : Statement Nothing) (parts : ElseIfs Nothing) (last : Statement Nothing) → at + size_statement a ≡ place → place + size_elseifs parts ≡ behind
+    → made ≡ noted_statement (notes_of tokens) (behind + 1) last → made ≡ noted_statement (notes_of tokens) (at + size_statement a + size_elseifs parts + 1) last
+last_shown tokens place behind made at a parts last first second shown = shown ∙ ap (λ k. noted_statement (notes_of tokens) k last) (omega arith)
+
+pub if_spans : (tokens : List Token) (made : Statement Note) (spot : Note) (e : Tree Note) (body : Statement Note) (parts : ElseIfs Note) (last : Option (Statement Note)) (form : Form) (a : Statement Nothing) (ps : ElseIfs Nothing) (l : Option (Statement Nothing)) (at place next : ℕ)
+    → made ≡ if_view spot e body parts last → spot ≡ (notes_of tokens).token at → e ≡ noted (notes_of tokens) (at + 1 + 1) form → at + 1 + size form + 2 ≡ place
+    → body ≡ noted_statement (notes_of tokens) place a → parts ≡ noted_elseifs (notes_of tokens) (place + size_statement a) ps
+    → last ≡ optional (noted_statement (notes_of tokens) (place + size_statement a + size_elseifs ps + 1)) l → place + size_statement a + size_elseifs ps + size_last l ≡ next
+    → SpansStatement tokens made (if_form form a ps l) at next
+if_spans tokens made spot e body parts last form a ps None at place next is noted_is test_is where_is body_is parts_is last_is sized = record {
+  shown = is ∙ ap (if_view spot e body parts) last_is ∙ ap (λ n. if_only n e body parts) noted_is
+      ∙ ap (λ z. if_only ((notes_of tokens).token at) z body parts) (test_is ∙ ap (λ k. noted (notes_of tokens) k form) (omega arith))
+      ∙ ap (λ z. if_only ((notes_of tokens).token at) (noted (notes_of tokens) (at + 2) form) z parts) (body_is ∙ ap (λ k. noted_statement (notes_of tokens) k a) (omega arith))
+      ∙ ap (if_only ((notes_of tokens).token at) (noted (notes_of tokens) (at + 2) form) (noted_statement (notes_of tokens) (at + size_head form) a)) (parts_is ∙ ap (λ k. noted_elseifs (notes_of tokens) k ps) (omega arith));
+  sized = omega arith;
+}
+if_spans tokens made spot e body parts last form a ps (Some l) at place next is noted_is test_is where_is body_is parts_is last_is sized = record {
+  shown = is ∙ ap (if_view spot e body parts) last_is ∙ ap (λ n. if_else n e body parts (noted_statement (notes_of tokens) (place + size_statement a + size_elseifs ps + 1) l)) noted_is
+      ∙ ap (λ z. if_else ((notes_of tokens).token at) z body parts (noted_statement (notes_of tokens) (place + size_statement a + size_elseifs ps + 1) l)) (test_is ∙ ap (λ k. noted (notes_of tokens) k form) (omega arith))
+      ∙ ap (λ z. if_else ((notes_of tokens).token at) (noted (notes_of tokens) (at + 2) form) z parts (noted_statement (notes_of tokens) (place + size_statement a + size_elseifs ps + 1) l)) (body_is ∙ ap (λ k. noted_statement (notes_of tokens) k a) (omega arith))
+      ∙ ap (λ z. if_else ((notes_of tokens).token at) (noted (notes_of tokens) (at + 2) form) (noted_statement (notes_of tokens) (at + size_head form) a) z (noted_statement (notes_of tokens) (place + size_statement a + size_elseifs ps + 1) l)) (parts_is ∙ ap (λ k. noted_elseifs (notes_of tokens) k ps) (omega arith))
+      ∙ ap (λ k. if_else ((notes_of tokens).token at) (noted (notes_of tokens) (at + 2) form) (noted_statement (notes_of tokens) (at + size_head form) a) (noted_elseifs (notes_of tokens) (at + size_head form + size_statement a) ps) (noted_statement (notes_of tokens) k l)) (omega arith);
+  sized = omega arith;
+}
+
+pub if_enters : {room : ℕ} {w : List Symbol} (e : Form) → test is_colon w ≡ false → Leads statement_depth room (λ o. past_if e o) w (λ o. due_statement (if_open e ∷ o)) w
+if_enters {room} {w} e h = record { same = λ n o is. if_in n e o w h }
+  where
+    if_in : (n : ℕ) (e : Form) (o : Around) (w : List Symbol) → test is_colon w ≡ false → walk_statement n (past_if e o) w ≡ walk_statement n (due_statement (if_open e ∷ o)) w
+    if_in n e o [] h = refl
+    if_in n e o (t ∷ w) h =
+        alike n (past_if e o) (due_statement (if_open e ∷ o)) t w (ap (λ b. pick b (Some (listing (of_if e) o)) (begin (if_open e ∷ o) t)) h)
+        (ap (λ b. pick b (statement_depth o) (begin_depth (if_open e ∷ o) t)) h) refl

@@ -19,7 +19,7 @@ use Rattle.php_grammar.specs.statement.Machine.{begun, begin, expected, entered,
 use Rattle.php_grammar.specs.statement.Depth.{statement_depth, begun_depth, begin_depth, place_depth, values_depth, statement_depth_at}
 use Rattle.php_grammar.specs.statement.Reading.{halt_statement}
 use Rattle.php_reader.specs.Seen.{test}
-use Rattle.php_parse_body.specs.Answer.{Spans}
+use Rattle.php_parse_operands.specs.Answer.{Spans}
 use Rattle.php_parse_statement.specs.RoleView.{head_begun}
 use Rattle.php_parse_statement.specs.Answer.{SpansStatement}
 use Rattle.php_parse_statement.specs.Walk.{short, outcome, stepped, walk_statement, walk_behind, Leads, Halts, head_ending}

@@ -16,7 +16,7 @@ use Rattle.php_grammar.specs.expression.Laws.{head_continuation}
 use Rattle.php_grammar.specs.statement.Machine.{named_here}
 use Rattle.php_grammar.specs.statement.Role.{Ending, closer, as_word, no_ending, ending, ending_of}
 use Rattle.php_reader.specs.Seen.{Stands, Shows, IsNamed, head_beginning, rest}
-use Rattle.php_parse_body.specs.Walk as inner
+use Rattle.php_parse_operands.specs.Walk as inner
 use Rattle.php_parse_statement.specs.Answer.{ShowsName, head_text, text_if}
 use Rattle.php_parse_statement.specs.RoleView.{IsEnding}
 use Rattle.php_parse_statement.specs.Walk.{head_ending, sunk, sunk_here}

@@ -21,9 +21,9 @@ use Rattle.php_reader.specs.declared.reader.Reader.{Reader}
 use Rattle.php_reader.specs.declared.fail.Stop.{Stop}
 use Rattle.php_reader.specs.declared.fail.Stop.TheVariants.{Syntax, TooDeep, NoMemory}
 use Rattle.php_reader.specs.Seen.{rest, Shows}
-use Rattle.php_parse_body.specs.declared.read.Read.{Read}
-use Rattle.php_parse_body.specs.Walk as inner
-use Rattle.php_parse_body.specs.Answer.{Spans}
+use Rattle.php_parse_operands.specs.declared.read.Read.{Read}
+use Rattle.php_parse_operands.specs.Walk as inner
+use Rattle.php_parse_operands.specs.Answer.{Spans}
 use Rattle.php_parse_statement.specs.declared.read.ReadStatement.{ReadStatement}
 use Rattle.php_parse_statement.specs.declared.read.Listed.{Listed}
 use Rattle.php_parse_statement.specs.Walk.{Leads, Halts, walk_statement, walk_behind, expression_outcome, depth_before, head_ending}

@@ -11,8 +11,8 @@ use Rattle.php_grammar.specs.statement.Forms.{Around, ExpressionPlace, Statement
 use Rattle.php_grammar.specs.statement.Machine.{begin, filled, advance_statement}
 use Rattle.php_grammar.specs.statement.Depth.{statement_depth, begin_depth, place_depth, statement_depth_at}
 use Rattle.php_grammar.specs.statement.Reading.{halt_statement}
-use Rattle.php_parse_body.specs.Walk as inner
-use Rattle.php_parse_body.specs.Walk.{walk}
+use Rattle.php_parse_operands.specs.Walk as inner
+use Rattle.php_parse_operands.specs.Walk.{walk}
 
 -- ---- walks
 

@@ -7,7 +7,7 @@ use php_lex::Tokens;
 use php_parse_body::{Read, read_expression};
 use php_reader::limit::LEAST_POWER;
 use php_reader::look::start_at;
-use php_reader::sign::Start;
+use php_reader::role::Start;
 use php_reader::{Reader, Stop};
 
 /// Where no level of nesting is left, the first token of an expression is nested too deep.

@@ -8,7 +8,7 @@ use crate::look::{ends, sees};
 use crate::read::{Entry, unclosed};
 use crate::role::Fixed;
 use php_ast::Expr;
-use php_reader::sign::Closer;
+use php_reader::role::Closer;
 use php_reader::{Reader, Stop};
 
 /// A test in parentheses.

@@ -8,7 +8,7 @@ ghost use Rattle.php_grammar.specs.statement.Role.{as_word, behind, ending, is_f
 ghost use Rattle.php_grammar.specs.statement.Laws.{head_behind};
 ghost use Rattle.php_parse_statement.specs.declared.role.After.TheVariants.{Other};
 ghost use Rattle.php_reader.specs.Seen.{Shows, Stands, Tests, rest};
-ghost use Rattle.php_reader.specs.SignView.{closer_view};
+ghost use Rattle.php_reader.specs.RoleView.{closer_view};
 ghost use Rattle.php_parse_statement.specs.Answer.{ShowsName};
 ghost use Rattle.php_parse_statement.specs.RoleView.{StandsBehind, StartsStatement, after_view, begun_view, fixed_view, is_variable_symbol, ShowsInt, ends_list};
 ghost use Rattle.php_parse_statement.specs.Walk.{head_ending};
@@ -21,7 +21,7 @@ use php_ast::Name;
 use php_base::NoMemory;
 use php_lex::{TokenKind, Tokens};
 use php_reader::look::{ends_with, name_at};
-use php_reader::sign::Closer;
+use php_reader::role::Closer;
 use std::alloc::Global;
 
 /// Whether there is a token at a place.

@@ -15,7 +15,7 @@ use crate::role::Fixed;
 use crate::simple::line;
 use php_ast::{ConstantItem, VariableItem};
 use php_reader::look::spot;
-use php_reader::sign::Closer;
+use php_reader::role::Closer;
 use php_reader::{Reader, Stop};
 use sqlite_items::Items;
 

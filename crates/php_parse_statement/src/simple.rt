@@ -18,7 +18,7 @@ use crate::read::{ReadStatement, discard, unclosed};
 use crate::role::{Fixed, JumpKind};
 use crate::values::values;
 use php_reader::look::{spot, text_at};
-use php_reader::sign::Closer;
+use php_reader::role::Closer;
 use php_reader::{Reader, Stop};
 
 /// `;`

@@ -1,5 +1,5 @@
 use Rattle.php_reader.specs.Seen.{rest}
-use Rattle.php_reader.specs.SignView.{closer_view}
+use Rattle.php_reader.specs.RoleView.{closer_view}
 use Rattle.php_parse_statement.proofs.Sees.{shows_ending, no_ending_here}
 use Rattle.php_parse_statement.proofs.look.ends.Goals as goal
 
