@@ -9,7 +9,6 @@ use Rattle.php_grammar.specs.TooDeep.{depth_inside}
 use Rattle.php_grammar.specs.expression.Role.{Beginning, at_nothing, beginning}
 use Rattle.php_grammar.specs.expression.Machine.{Form, State, OpenForms, expects, holds, holds_call, due_enclosed, due_listed, past_static, past_yield, instance_of_open, started, missing_end, Reading, halt_static, halt_yield, is_last, advance, halt}
 use Rattle.php_grammar.specs.expression.Depth.{depth_at}
-
 use Rattle.php_grammar.proofs.expression.LawProofs.{halt_unread}
 use Rattle.php_parse_operands.specs.Walk as inner
 use Rattle.php_parse_operands.specs.Walk.{walk}

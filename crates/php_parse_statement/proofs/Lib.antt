@@ -7,3 +7,5 @@ pub mod Plain
 pub mod Named
 pub mod Lists
 pub mod Looping
+pub mod Listing
+pub mod Targets

@@ -5,3 +5,4 @@ pub mod Answer
 pub mod NameAnswer
 pub mod ListAnswer
 pub mod FormAnswer
+pub mod HeadAnswer

@@ -18,9 +18,9 @@ returns-then-not-sees-3 c =
     record {
       halts = leads_halts (λ o. due (right_paren ∷ []) (before_semicolon made o))
           (leads (λ o. due_int (named_here s.0) o)
-              (leads (λ o. past_name of_declare (named_here s.0) o) (declare_named h.token p.token s.1.token s.0 h.stands.is h.role_is p.stands.is p.role_is s.1.stands.is s.1.role_is (omega (arith, c.requires.some)))
-                  (declare_assigned (named_here s.0) a.token a.stands.is a.role_is (omega (arith, c.requires.some))))
-              (int_reads (named_here s.0) c.in-Some-int_at.value.value i.token i.stands.is i.role_is (omega (arith, c.requires.some))))
+          (leads (λ o. past_name of_declare (named_here s.0) o) (declare_named h.token p.token s.1.token s.0 h.stands.is h.role_is p.stands.is p.role_is s.1.stands.is s.1.role_is (omega (arith, c.requires.some)))
+          (declare_assigned (named_here s.0) a.token a.stands.is a.role_is (omega (arith, c.requires.some))))
+          (int_reads (named_here s.0) c.in-Some-int_at.value.value i.token i.stands.is i.role_is (omega (arith, c.requires.some))))
           (due_halts right_paren [] (λ o. before_semicolon made o) c.if-not-sees-3.ensures);
       ahead = omega arith;
       within = omega (arith, i.stands.within);
@@ -38,11 +38,11 @@ returns-then-not-sees-4 c =
     record {
       halts = leads_halts (λ o. due (fixed_semicolon ∷ []) (done made o))
           (leads (λ o. due (right_paren ∷ []) (before_semicolon made o))
-              (leads (λ o. due_int (named_here s.0) o)
-                  (leads (λ o. past_name of_declare (named_here s.0) o) (declare_named h.token p.token s.1.token s.0 h.stands.is h.role_is p.stands.is p.role_is s.1.stands.is s.1.role_is (omega (arith, c.requires.some)))
-                      (declare_assigned (named_here s.0) a.token a.stands.is a.role_is (omega (arith, c.requires.some))))
-                  (int_reads (named_here s.0) c.in-Some-int_at.value.value i.token i.stands.is i.role_is (omega (arith, c.requires.some))))
-              (due_inside right_paren [] (λ o. before_semicolon made o) e.token e.stands.is e.role_is (λ o. refl) (omega (arith, c.requires.some))))
+          (leads (λ o. due_int (named_here s.0) o)
+          (leads (λ o. past_name of_declare (named_here s.0) o) (declare_named h.token p.token s.1.token s.0 h.stands.is h.role_is p.stands.is p.role_is s.1.stands.is s.1.role_is (omega (arith, c.requires.some)))
+          (declare_assigned (named_here s.0) a.token a.stands.is a.role_is (omega (arith, c.requires.some))))
+          (int_reads (named_here s.0) c.in-Some-int_at.value.value i.token i.stands.is i.role_is (omega (arith, c.requires.some))))
+          (due_inside right_paren [] (λ o. before_semicolon made o) e.token e.stands.is e.role_is (λ o. refl) (omega (arith, c.requires.some))))
           (due_halts fixed_semicolon [] (λ o. done made o) c.if-not-sees-4.ensures);
       ahead = omega arith;
       within = omega (arith, e.stands.within);
@@ -63,11 +63,11 @@ returns c =
       spans = declare_spans c.args.reader.now.tokens.now _ _ _ (named_here s.0) c.in-Some-int_at.value.value c.args.at c.declare_statement.ensures c.spot.ensures s.2;
       reads = leads (λ o. due (fixed_semicolon ∷ []) (done made o))
           (leads (λ o. due (right_paren ∷ []) (before_semicolon made o))
-              (leads (λ o. due_int (named_here s.0) o)
-                  (leads (λ o. past_name of_declare (named_here s.0) o) (declare_named h.token p.token s.1.token s.0 h.stands.is h.role_is p.stands.is p.role_is s.1.stands.is s.1.role_is (omega (arith, c.requires.some)))
-                      (declare_assigned (named_here s.0) a.token a.stands.is a.role_is (omega (arith, c.requires.some))))
-                  (int_reads (named_here s.0) c.in-Some-int_at.value.value i.token i.stands.is i.role_is (omega (arith, c.requires.some))))
-              (due_inside right_paren [] (λ o. before_semicolon made o) e.token e.stands.is e.role_is (λ o. refl) (omega (arith, c.requires.some))))
+          (leads (λ o. due_int (named_here s.0) o)
+          (leads (λ o. past_name of_declare (named_here s.0) o) (declare_named h.token p.token s.1.token s.0 h.stands.is h.role_is p.stands.is p.role_is s.1.stands.is s.1.role_is (omega (arith, c.requires.some)))
+          (declare_assigned (named_here s.0) a.token a.stands.is a.role_is (omega (arith, c.requires.some))))
+          (int_reads (named_here s.0) c.in-Some-int_at.value.value i.token i.stands.is i.role_is (omega (arith, c.requires.some))))
+          (due_inside right_paren [] (λ o. before_semicolon made o) e.token e.stands.is e.role_is (λ o. refl) (omega (arith, c.requires.some))))
           (due_outside fixed_semicolon [] (λ o. done made o) f.token f.stands.is f.role_is (λ o. refl) (λ d. refl) c.requires.some);
       ahead = omega arith;
       within = omega (arith, f.stands.within);

@@ -28,7 +28,7 @@ returns-in_err-places c =
     let q = err_from_is_err_and c.from_residual.result c.from_residual.ensures.1 in
     rw (q.1, q.2) (later c.args.reader.now.tokens.now c.args.at (c.args.at + 1 + 1) (λ o. expected (as_value of_unset none) o) c.in_err-places.field-0.0 (omega arith)
     (leads (λ o. due (left_paren ∷ []) (expected (as_value of_unset none) o)) (begins at_unset h.token h.stands.is h.role_is (λ o. refl) (λ o. refl) c.requires.some)
-        (due_outside left_paren [] (λ o. expected (as_value of_unset none) o) s.token s.stands.is s.role_is (λ o. refl) (λ d. refl) c.requires.some))
+    (due_outside left_paren [] (λ o. expected (as_value of_unset none) o) s.token s.stands.is s.role_is (λ o. refl) (λ d. refl) c.requires.some))
     (outwards _ _ c.args.reader.now.room (c.args.reader.now.room - 1) _ _ c.args.reader.now.tokens.now (c.args.at + 1 + 1) c.in_err-places.field-0.0 (λ o. omega (arith, c.requires.some)) (c.in_err-places.ensures of_unset)))
 
 pub returns-then-not-ends : goal.returns-then-not-ends
@@ -39,7 +39,7 @@ returns-then-not-ends c =
     rw c.discard.ensures (record {
       halts = leads_halts (λ o. expected (as_value of_unset none) o)
           (leads (λ o. due (left_paren ∷ []) (expected (as_value of_unset none) o)) (begins at_unset h.token h.stands.is h.role_is (λ o. refl) (λ o. refl) c.requires.some)
-              (due_outside left_paren [] (λ o. expected (as_value of_unset none) o) s.token s.stands.is s.role_is (λ o. refl) (λ d. refl) c.requires.some))
+          (due_outside left_paren [] (λ o. expected (as_value of_unset none) o) s.token s.stands.is s.role_is (λ o. refl) (λ d. refl) c.requires.some))
           (values_unended of_unset (c.args.reader.now.room - 1) r.items r.last (λ o. omega (arith, c.requires.some)) (r.reads of_unset) (λ o. unset_stuck r.items r.last o _ r.no_comma (c.if-not-ends.ensures.no refl)));
       ahead = omega (arith, r.ahead);
       within = r.within;
@@ -55,9 +55,9 @@ returns-then-not-sees-2 c =
     rw c.discard-then-not-sees-2.ensures (record {
       halts = leads_halts (λ o. due (fixed_semicolon ∷ []) (done (unset tt all) o))
           (leads (λ o. expected (as_value of_unset none) o)
-              (leads (λ o. due (left_paren ∷ []) (expected (as_value of_unset none) o)) (begins at_unset h.token h.stands.is h.role_is (λ o. refl) (λ o. refl) c.requires.some)
-                  (due_outside left_paren [] (λ o. expected (as_value of_unset none) o) s.token s.stands.is s.role_is (λ o. refl) (λ d. refl) c.requires.some))
-              (values_lead of_unset (c.args.reader.now.room - 1) r.items r.last e.token (λ o. due (fixed_semicolon ∷ []) (done (unset tt all) o)) (λ o. omega (arith, c.requires.some)) r.some (r.reads of_unset) e.stands.is (λ o. ap (filled (as_value of_unset r.items) r.last o) e.role_is)))
+          (leads (λ o. due (left_paren ∷ []) (expected (as_value of_unset none) o)) (begins at_unset h.token h.stands.is h.role_is (λ o. refl) (λ o. refl) c.requires.some)
+          (due_outside left_paren [] (λ o. expected (as_value of_unset none) o) s.token s.stands.is s.role_is (λ o. refl) (λ d. refl) c.requires.some))
+          (values_lead of_unset (c.args.reader.now.room - 1) r.items r.last e.token (λ o. due (fixed_semicolon ∷ []) (done (unset tt all) o)) (λ o. omega (arith, c.requires.some)) r.some (r.reads of_unset) e.stands.is (λ o. ap (filled (as_value of_unset r.items) r.last o) e.role_is)))
           (due_halts fixed_semicolon [] (λ o. done (unset tt all) o) c.if-not-sees-2.ensures);
       ahead = omega (arith, r.ahead);
       within = omega (arith, e.stands.within);
@@ -76,9 +76,9 @@ returns c =
       spans = unset_spans c.args.reader.now.tokens.now _ _ _ all c.args.at _ c.unset_statement.ensures c.spot.ensures r.shown r.sized;
       reads = leads (λ o. due (fixed_semicolon ∷ []) (done (unset tt all) o))
           (leads (λ o. expected (as_value of_unset none) o)
-              (leads (λ o. due (left_paren ∷ []) (expected (as_value of_unset none) o)) (begins at_unset h.token h.stands.is h.role_is (λ o. refl) (λ o. refl) c.requires.some)
-                  (due_outside left_paren [] (λ o. expected (as_value of_unset none) o) s.token s.stands.is s.role_is (λ o. refl) (λ d. refl) c.requires.some))
-              (values_lead of_unset (c.args.reader.now.room - 1) r.items r.last e.token (λ o. due (fixed_semicolon ∷ []) (done (unset tt all) o)) (λ o. omega (arith, c.requires.some)) r.some (r.reads of_unset) e.stands.is (λ o. ap (filled (as_value of_unset r.items) r.last o) e.role_is)))
+          (leads (λ o. due (left_paren ∷ []) (expected (as_value of_unset none) o)) (begins at_unset h.token h.stands.is h.role_is (λ o. refl) (λ o. refl) c.requires.some)
+          (due_outside left_paren [] (λ o. expected (as_value of_unset none) o) s.token s.stands.is s.role_is (λ o. refl) (λ d. refl) c.requires.some))
+          (values_lead of_unset (c.args.reader.now.room - 1) r.items r.last e.token (λ o. due (fixed_semicolon ∷ []) (done (unset tt all) o)) (λ o. omega (arith, c.requires.some)) r.some (r.reads of_unset) e.stands.is (λ o. ap (filled (as_value of_unset r.items) r.last o) e.role_is)))
           (due_outside fixed_semicolon [] (λ o. done (unset tt all) o) f.token f.stands.is f.role_is (λ o. refl) (λ d. refl) c.requires.some);
       ahead = omega (arith, r.ahead);
       within = omega (arith, f.stands.within);

@@ -37,7 +37,7 @@ returns-in_err-test g c =
     let q = err_from_is_err_and c.from_residual-in_err-test.result c.from_residual-in_err-test.ensures.1 in
     rw (q.1, q.2) (later c.args.self.now.reader.tokens.now c.args.at _ (λ o. headed (do_head r.form) o) c.in_err-test.field-0.0 (omega (arith, r.ahead))
     (leads (λ o. done r.form (do_open ∷ o)) (leads (λ o. due_statement (do_open ∷ o)) (begins at_do h.token h.stands.is h.role_is (λ o. refl) (λ o. refl) c.args.self.now.deep) (r.reads do_open refl))
-        (do_on r.form w.token w.stands.is w.role_is c.args.self.now.deep))
+    (do_on r.form w.token w.stands.is w.role_is c.args.self.now.deep))
     (c.in_err-test.ensures (do_head r.form)))
 
 pub returns-then-not-sees : goal.returns-then-not-sees
@@ -49,9 +49,9 @@ returns-then-not-sees g c =
     record {
       halts = leads_halts (λ o. before_semicolon (do_while tt r.form e.form) o)
           (leads (λ o. headed (do_head r.form) o)
-              (leads (λ o. done r.form (do_open ∷ o)) (leads (λ o. due_statement (do_open ∷ o)) (begins at_do h.token h.stands.is h.role_is (λ o. refl) (λ o. refl) c.args.self.now.deep) (r.reads do_open refl))
-                  (do_on r.form w.token w.stands.is w.role_is c.args.self.now.deep))
-              (e.reads (do_head r.form)))
+          (leads (λ o. done r.form (do_open ∷ o)) (leads (λ o. due_statement (do_open ∷ o)) (begins at_do h.token h.stands.is h.role_is (λ o. refl) (λ o. refl) c.args.self.now.deep) (r.reads do_open refl))
+          (do_on r.form w.token w.stands.is w.role_is c.args.self.now.deep))
+          (e.reads (do_head r.form)))
           (due_halts fixed_semicolon [] (λ o. done (do_while tt r.form e.form) o) c.if-not-sees.ensures);
       ahead = omega (arith, r.ahead, e.ahead);
       within = e.within;
@@ -70,9 +70,9 @@ returns g c =
           (ap statement_view c.in_ok-inside.ensures ∙ r.spans.shown) r.spans.sized e.shown e.sized;
       reads = leads (λ o. before_semicolon (do_while tt r.form e.form) o)
           (leads (λ o. headed (do_head r.form) o)
-              (leads (λ o. done r.form (do_open ∷ o)) (leads (λ o. due_statement (do_open ∷ o)) (begins at_do h.token h.stands.is h.role_is (λ o. refl) (λ o. refl) c.args.self.now.deep) (r.reads do_open refl))
-                  (do_on r.form w.token w.stands.is w.role_is c.args.self.now.deep))
-              (e.reads (do_head r.form)))
+          (leads (λ o. done r.form (do_open ∷ o)) (leads (λ o. due_statement (do_open ∷ o)) (begins at_do h.token h.stands.is h.role_is (λ o. refl) (λ o. refl) c.args.self.now.deep) (r.reads do_open refl))
+          (do_on r.form w.token w.stands.is w.role_is c.args.self.now.deep))
+          (e.reads (do_head r.form)))
           (due_outside fixed_semicolon [] (λ o. done (do_while tt r.form e.form) o) m.token m.stands.is m.role_is (λ o. refl) (λ d. refl) c.args.self.now.deep);
       ahead = omega (arith, r.ahead, e.ahead);
       within = omega (arith, m.stands.within);

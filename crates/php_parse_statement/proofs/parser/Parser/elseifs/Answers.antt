@@ -39,8 +39,8 @@ returns-in_err-read g c =
     let q = err_from_is_err_and c.from_residual-in_err-read.result c.from_residual-in_err-read.ensures.1 in
     rw (q.1, q.2) (λ e body. later c.args.self.now.reader.tokens.now c.args.at _ (λ o. due_statement (elseif_open e body v.parts t.form ∷ o)) c.in_err-read.field-0.0 (omega (arith, v.sized, t.ahead))
     (leads (λ o. headed (elseif_head e body v.parts) o)
-        (leads (λ o. behind_parts e body v.parts o) (v.reads e body) (parts_elseif e body v.parts w.token w.stands.is w.role_is c.args.self.now.deep))
-        (t.reads (elseif_head e body v.parts)))
+    (leads (λ o. behind_parts e body v.parts o) (v.reads e body) (parts_elseif e body v.parts w.token w.stands.is w.role_is c.args.self.now.deep))
+    (t.reads (elseif_head e body v.parts)))
     (c.in_err-read.ensures (elseif_open e body v.parts t.form) refl))
 
 pub loop-items-preserved : goal.loop-items-preserved
@@ -56,8 +56,8 @@ loop-items-preserved g c =
       sized = omega (arith, v.sized, t.sized, r.spans.sized);
       reads = λ e body. leads (λ o. due_statement (elseif_open e body v.parts t.form ∷ o))
           (leads (λ o. headed (elseif_head e body v.parts) o)
-              (leads (λ o. behind_parts e body v.parts o) (v.reads e body) (parts_elseif e body v.parts w.token w.stands.is w.role_is c.args.self.now.deep))
-              (t.reads (elseif_head e body v.parts)))
+          (leads (λ o. behind_parts e body v.parts o) (v.reads e body) (parts_elseif e body v.parts w.token w.stands.is w.role_is c.args.self.now.deep))
+          (t.reads (elseif_head e body v.parts)))
           (r.reads (elseif_open e body v.parts t.form) refl);
       within = r.within;
     }

@@ -46,9 +46,9 @@ returns-then-not-sees-2 g c =
     rw c.forget-then-not-sees-2.ensures (λ loop h. record {
       halts = leads_halts (λ o. before_semicolon (looped loop (list_behind_colon v.statements)) o)
           (leads (λ o. due_in_list (of_loop loop) v.statements o)
-              (leads (λ o. due_in_list (of_loop loop) no_statement o) (loop_colon loop s.token s.stands.is s.role_is c.args.self.now.deep) (v.reads (of_loop loop)))
-              (list_outside (of_loop loop) v.statements e.token (after_view c.args.end) (λ o. before_semicolon (looped loop (list_behind_colon v.statements)) o) e.stands.is e.role_is (end_outside loop (after_view c.args.end) h)
-                  (λ o. loop_word loop (after_view c.args.end) v.statements o h) c.args.self.now.deep))
+          (leads (λ o. due_in_list (of_loop loop) no_statement o) (loop_colon loop s.token s.stands.is s.role_is c.args.self.now.deep) (v.reads (of_loop loop)))
+          (list_outside (of_loop loop) v.statements e.token (after_view c.args.end) (λ o. before_semicolon (looped loop (list_behind_colon v.statements)) o) e.stands.is e.role_is (end_outside loop (after_view c.args.end) h)
+          (λ o. loop_word loop (after_view c.args.end) v.statements o h) c.args.self.now.deep))
           (due_halts fixed_semicolon [] (λ o. done (looped loop (list_behind_colon v.statements)) o) c.if-not-sees-2.ensures);
       ahead = omega (arith, v.sized);
       within = omega (arith, e.stands.within);
@@ -67,9 +67,9 @@ returns g c =
       sized = omega (arith, v.sized);
       reads = λ loop h. leads (λ o. before_semicolon (looped loop (list_behind_colon v.statements)) o)
           (leads (λ o. due_in_list (of_loop loop) v.statements o)
-              (leads (λ o. due_in_list (of_loop loop) no_statement o) (loop_colon loop s.token s.stands.is s.role_is c.args.self.now.deep) (v.reads (of_loop loop)))
-              (list_outside (of_loop loop) v.statements e.token (after_view c.args.end) (λ o. before_semicolon (looped loop (list_behind_colon v.statements)) o) e.stands.is e.role_is (end_outside loop (after_view c.args.end) h)
-                  (λ o. loop_word loop (after_view c.args.end) v.statements o h) c.args.self.now.deep))
+          (leads (λ o. due_in_list (of_loop loop) no_statement o) (loop_colon loop s.token s.stands.is s.role_is c.args.self.now.deep) (v.reads (of_loop loop)))
+          (list_outside (of_loop loop) v.statements e.token (after_view c.args.end) (λ o. before_semicolon (looped loop (list_behind_colon v.statements)) o) e.stands.is e.role_is (end_outside loop (after_view c.args.end) h)
+          (λ o. loop_word loop (after_view c.args.end) v.statements o h) c.args.self.now.deep))
           (due_outside fixed_semicolon [] (λ o. done (looped loop (list_behind_colon v.statements)) o) m.token m.stands.is m.role_is (λ o. refl) (λ d. refl) c.args.self.now.deep);
       ahead = omega (arith, v.sized);
       within = omega (arith, m.stands.within);
