@@ -1,18 +1,17 @@
 -- An expression inside another machine: what the walk of the machine of expressions comes to is what the walk of the outer
 -- one goes on with.
-use Rattle.std.proofs.Common.{◌≡◌, ◌≤◌, ◌<◌, ℕ, suc, ◌+◌, Bool, true, false, Option, Some, None, List, [], ◌∷◌, ◌++◌, refl, sym, ◌∙◌, ap, subst, arith, ltb-true, ltb-false}
+use Rattle.std.proofs.Common.{◌≡◌, ℕ, ◌+◌, Bool, true, false, Option, Some, None, List, [], ◌∷◌, refl, sym, ◌∙◌, ap, subst, arith, ltb-true, ltb-false}
 use Rattle.std.specs.Prelude.{nat_lt}
 use Rattle.std.proofs.lemmas.Bool.{lt-ltb, le-ltb}
 use Rattle.php_ast.specs.Symbol.{Symbol}
 use Rattle.php_grammar.specs.Run.{either, if_some, ReadingOf, if_nothing, whole_before, through_expression}
 use Rattle.php_grammar.specs.TooDeep.{depth_inside}
-use Rattle.php_grammar.specs.expression.Role.{Beginning, at_nothing, beginning}
-use Rattle.php_grammar.specs.expression.Machine.{Form, State, OpenForms, expects, holds, holds_call, due_enclosed, due_listed, past_static, past_yield, instance_of_open, started, missing_end, Reading, halt_static, halt_yield, is_last, advance, halt}
+use Rattle.php_grammar.specs.expression.Machine.{Form, State, OpenForms, expects, holds, holds_call, due_enclosed, due_listed, past_static, past_yield, instance_of_open, missing_end, Reading, halt_static, halt_yield, is_last, advance, halt}
 use Rattle.php_grammar.specs.expression.Depth.{depth_at}
 use Rattle.php_grammar.proofs.expression.LawProofs.{halt_unread}
 use Rattle.php_parse_operands.specs.Walk as inner
 use Rattle.php_parse_operands.specs.Walk.{walk}
-use Rattle.php_parse_statement.specs.Walk.{OutcomeOf, short, deep, outcome, stepped, walk_of, sunk, sunk_here, expression_outcome}
+use Rattle.php_parse_statement.specs.Walk.{OutcomeOf, short, deep, outcome, stepped, walk_of}
 
 -- ---- what halts in front of a symbol looks at that one alone
 

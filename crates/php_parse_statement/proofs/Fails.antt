@@ -1,5 +1,5 @@
 -- Failures further on.
-use Rattle.std.proofs.Common.{◌≡◌, ◌≤◌, ℕ, ◌+◌, ◌-◌, true, false, List, arith}
+use Rattle.std.proofs.Common.{◌≡◌, ◌≤◌, ℕ, ◌+◌, true, false, List, arith}
 use Rattle.php_token.specs.Token.{Token}
 use Rattle.php_ast.specs.Symbol.{Symbol}
 use Rattle.php_grammar.specs.statement.Forms.{Around, ExpressionPlace, StatementState}
@@ -8,7 +8,7 @@ use Rattle.php_grammar.specs.statement.Depth.{statement_depth, place_depth}
 use Rattle.php_reader.specs.Seen.{rest}
 use Rattle.php_reader.specs.declared.fail.Stop.{Stop}
 use Rattle.php_reader.specs.declared.fail.Stop.TheVariants.{Syntax, TooDeep, NoMemory}
-use Rattle.php_parse_statement.specs.Walk.{Leads, Halts}
+use Rattle.php_parse_statement.specs.Walk.{Leads}
 use Rattle.php_parse_statement.specs.Answer.{Fails, FailsInside}
 use Rattle.php_parse_statement.proofs.Moves.{leads_halts}
 use Rattle.php_parse_statement.proofs.Inside.{read_halts}

@@ -1,26 +1,26 @@
 -- Expressions in statements.
-use Rattle.std.proofs.Common.{◌≡◌, ◌≤◌, ◌<◌, ℕ, zero, suc, ◌+◌, ◌-◌, Bool, true, false, Option, Some, None, List, [], ◌∷◌, ◌++◌, refl, sym, ◌∙◌, ap, subst, arith}
+use Rattle.std.proofs.Common.{◌≡◌, ◌≤◌, ◌<◌, ℕ, zero, suc, ◌+◌, Bool, true, false, Option, Some, None, List, [], ◌∷◌, ◌++◌, refl, sym, ◌∙◌, ap, subst, arith}
 use Rattle.std.specs.Prelude.{nat_lt}
-use Rattle.std.proofs.lemmas.Bool.{lt-ltb, le-ltb}
+use Rattle.std.proofs.lemmas.Bool.{le-ltb}
 use Rattle.php_ast.specs.Symbol.{Symbol}
 use Rattle.php_ast.specs.declared.operator.ArrayForm.TheVariants as array_form
 use Rattle.php_ast.specs.expression.Tree.{parentheses, emptiness, exiting, array, is_set}
 use Rattle.php_ast.specs.statement.Tree.{Statement}
-use Rattle.php_grammar.specs.Run.{either, if_some, ReadingOf, whole_before}
+use Rattle.php_grammar.specs.Run.{either, if_some, whole_before}
 use Rattle.php_grammar.specs.TooDeep.{depth_inside}
 use Rattle.php_grammar.specs.expression.Role.{Beginning, at_leaf, at_static, at_template, at_exit, at_new, at_yield, at_enclosed, at_listed, at_prefix, at_nothing, beginning}
 use Rattle.php_grammar.specs.expression.Machine.{Nothing, Form, State, expects, started, advance, halt}
-use Rattle.php_grammar.specs.statement.Role.{Ending, no_ending, closer, as_word, ending}
-use Rattle.php_grammar.specs.statement.Forms.{Around, Head, elseif_list_head, switch_head, Values, of_echo, of_starts, of_tests, ExpressionPlace, as_line, as_value, as_test, as_walked, as_first, as_second, as_label, StatementState, in_expression}
-use Rattle.php_grammar.specs.statement.Machine.{expected, entered, filled, advance_statement}
+use Rattle.php_grammar.specs.statement.Role.{ending}
+use Rattle.php_grammar.specs.statement.Forms.{Around, Head, elseif_list_head, switch_head, Values, of_echo, of_starts, of_tests, ExpressionPlace, as_value, as_test, as_walked, as_first, as_second, as_label, StatementState, in_expression}
+use Rattle.php_grammar.specs.statement.Machine.{expected, filled, advance_statement}
 use Rattle.php_grammar.specs.statement.Depth.{statement_depth, place_depth, statement_depth_at}
 use Rattle.php_grammar.specs.statement.Reading.{halt_statement, values_rest, head_rest, place_rest, missing_around, completed_around, placed_statement}
 use Rattle.php_grammar.proofs.expression.LawProofs.{halt_unread}
 use Rattle.php_parse_operands.specs.Walk as inner
 use Rattle.php_parse_operands.specs.Walk.{walk}
-use Rattle.php_parse_statement.specs.Walk.{OutcomeOf, short, deep, outcome, stepped, walk_statement, Leads, Halts, stopped, sunk, sunk_here, expression_outcome, head_ending, walk_behind}
+use Rattle.php_parse_statement.specs.Walk.{short, deep, outcome, stepped, walk_statement, Leads, Halts, sunk, sunk_here, expression_outcome, head_ending, walk_behind}
 use Rattle.php_parse_statement.proofs.Bridge.{Inside, walk_past, passed, bridge}
-use Rattle.php_parse_statement.proofs.Moves.{sticks, sinks, leads, leads_halts, Some_of, lacks_by, some_behind}
+use Rattle.php_parse_statement.proofs.Moves.{sticks, sinks, Some_of, lacks_by, some_behind}
 
 -- ---- a place of a statement
 

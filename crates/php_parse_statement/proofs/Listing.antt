@@ -1,5 +1,5 @@
 -- The lists of an `if`.
-use Rattle.std.proofs.Common.{◌≡◌, ◌≢◌, ◌≤◌, ◌<◌, ℕ, suc, ◌+◌, ◌-◌, Bool, true, false, Option, Some, None, List, [], ◌∷◌, ◌++◌, map, refl, sym, ◌∙◌, ap, arith}
+use Rattle.std.proofs.Common.{◌≡◌, ◌≢◌, ◌≤◌, ℕ, ◌+◌, true, Option, Some, None, List, [], ◌∷◌, ◌++◌, map, refl, sym, ◌∙◌, ap, arith}
 use Rattle.php_token.specs.Token.{Token}
 use Rattle.php_ast.specs.declared.statement.Stmt.{Stmt}
 use Rattle.php_ast.specs.declared.statement.ElseIf.{ElseIf}
@@ -12,10 +12,9 @@ use Rattle.php_ast.specs.statement.View.{elseif_lists_from, if_lists_view, list_
 use Rattle.php_ast.specs.statement.Placed.{size_statements, noted_statements, size_elseif_lists, noted_elseif_lists, size_head}
 use Rattle.php_grammar.specs.expression.Role.{is_colon}
 use Rattle.php_grammar.specs.expression.Machine.{Nothing, Form, pick}
-use Rattle.php_grammar.specs.statement.Laws.{head_behind}
 use Rattle.php_grammar.specs.statement.Role.{Behind, by_else, by_elseif, by_endif, behind}
-use Rattle.php_grammar.specs.statement.Forms.{of_if, of_else, if_open, Around, StatementState, due_in_list, past_if}
-use Rattle.php_grammar.specs.statement.Machine.{begin, listing, list_end, lists_step, before_semicolon}
+use Rattle.php_grammar.specs.statement.Forms.{of_if, of_else, if_open, Around, due_in_list, past_if}
+use Rattle.php_grammar.specs.statement.Machine.{begin, listing, list_end, lists_step}
 use Rattle.php_grammar.specs.statement.Depth.{statement_depth, begin_depth}
 use Rattle.php_parse_statement.specs.Answer.{SpansStatement}
 use Rattle.php_parse_statement.specs.FormAnswer.{last_list, last_statements, if_lists_form, size_last_list}

@@ -1,6 +1,5 @@
 -- Lists of statements, blocks and bodies.
-use Rattle.std.proofs.Common.{◌≡◌, ◌≢◌, ◌≤◌, ◌<◌, ℕ, suc, ◌+◌, ◌-◌, Bool, true, false, Option, Some, None, Result, Ok, Err, List, [], ◌∷◌, ◌++◌, map, refl, sym, ◌∙◌, ap, arith}
-use Rattle.std.specs.Prelude.{nat_lt}
+use Rattle.std.proofs.Common.{◌≡◌, ◌≢◌, ◌≤◌, ℕ, ◌+◌, ◌-◌, Bool, true, false, Some, None, Result, Ok, Err, List, [], ◌∷◌, ◌++◌, map, refl, sym, ◌∙◌, ap, arith}
 use Rattle.php_token.specs.Token.{Token}
 use Rattle.php_token.specs.declared.kind.Keyword.{Keyword}
 use Rattle.php_token.specs.declared.kind.Keyword.TheVariants as word
@@ -10,23 +9,21 @@ use Rattle.php_ast.specs.declared.statement.Stmt.{Stmt}
 use Rattle.php_ast.specs.declared.statement.SwitchForm.{SwitchForm}
 use Rattle.php_ast.specs.declared.statement.SwitchForm.TheVariants as switch_form
 use Rattle.php_ast.specs.statement.Spelling.{cases_closing}
-use Rattle.php_ast.specs.Symbol as symbol
 use Rattle.php_ast.specs.Symbol.{Symbol, keyword, punct}
 use Rattle.php_ast.specs.expression.View.{Note}
 use Rattle.php_ast.specs.expression.Placed.{notes_of}
 use Rattle.php_ast.specs.statement.Tree.{Statement, block, Statements, no_statement, and_statement}
 use Rattle.php_ast.specs.statement.View.{statements_from, list_view, statement_view, statements_view}
-use Rattle.php_ast.specs.statement.Placed.{size_statements, noted_statement, noted_statements, size_statement}
+use Rattle.php_ast.specs.statement.Placed.{size_statements, noted_statement, noted_statements}
 use Rattle.php_grammar.specs.Run.{either}
 use Rattle.php_grammar.specs.expression.Machine.{Nothing, pick}
 use Rattle.php_grammar.specs.statement.Laws.{head_behind}
 use Rattle.php_grammar.specs.statement.Role.{StatementBeginning, at_block, statement_beginning, Behind, by_else, by_while, by_brace, by_other, behind, behind_keyword, behind_punct, body_strength, ends_outside}
 use Rattle.php_grammar.specs.statement.Forms.{StatementList, of_block, of_if, of_elseif, of_else, of_loop, of_case, of_try, of_catch, of_finally, list_open, if_open, elseif_open, else_open, loop_open, do_open, OpenStatement, Around, StatementState, due_statement, done, due_in_list, listed_statement}
-use Rattle.php_grammar.specs.statement.Machine.{begun as begun_state, begin, list_end, list_step, released_bodies, reached_step, advance_statement}
-use Rattle.php_grammar.specs.statement.Depth.{is_body_at, is_body, deepened_statement, statement_depth, depth_outside, begun_depth, begin_depth, list_depth, form_depth, kept_bodies, statement_depth_at}
+use Rattle.php_grammar.specs.statement.Machine.{begun as begun_state, begin, list_end, advance_statement}
+use Rattle.php_grammar.specs.statement.Depth.{is_body_at, statement_depth, depth_outside, begun_depth, begin_depth, list_depth, form_depth, kept_bodies}
 use Rattle.php_grammar.specs.statement.Reading.{halt_statement, list_rest, missing_around, completed_around}
 use Rattle.php_grammar.proofs.statement.Starts.{ender, no_end, behind_list}
-use Rattle.php_grammar.proofs.statement.Trace.{deepened_same}
 use Rattle.php_parse_statement.specs.Walk.{short, deep, outcome, walk_statement, Leads, Halts, depth_before}
 use Rattle.php_parse_statement.specs.RoleView.{StartsStatement, begun_view, ends_list, head_begun}
 use Rattle.php_parse_statement.specs.declared.role.Begun.{Begun}
@@ -38,7 +35,7 @@ use Rattle.php_reader.specs.declared.fail.Stop.TheVariants.{Syntax, TooDeep, NoM
 use Rattle.php_reader.specs.Seen.{Shows, rest}
 use Rattle.php_parse_statement.specs.Answer.{SpansStatement, Fails, AnswersBy, AnswersInside}
 use Rattle.php_parse_statement.specs.ListAnswer.{list_measure, IsBraced, AnswersBody}
-use Rattle.php_parse_statement.proofs.Moves.{moves, sinks, sticks, alike, leads, leads_halts, Some_of, lacks_by}
+use Rattle.php_parse_statement.proofs.Moves.{moves, sinks, sticks, alike, Some_of, lacks_by}
 
 -- ---- the nesting in a list
 

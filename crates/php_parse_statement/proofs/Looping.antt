@@ -1,5 +1,5 @@
 -- Tests, loops and the bodies of an `if`.
-use Rattle.std.proofs.Common.{◌≡◌, ◌≢◌, ◌≤◌, ◌<◌, ℕ, suc, ◌+◌, ◌-◌, Bool, true, false, Option, Some, None, List, [], ◌∷◌, ◌++◌, map, refl, sym, ◌∙◌, ap, arith}
+use Rattle.std.proofs.Common.{◌≡◌, ◌≢◌, ◌≤◌, ℕ, ◌+◌, true, false, Option, Some, None, List, [], ◌∷◌, ◌++◌, map, refl, sym, ◌∙◌, ap, arith}
 use Rattle.std.specs.Prelude.{nat_lt}
 use Rattle.php_token.specs.Token.{Token}
 use Rattle.php_ast.specs.declared.statement.Stmt.{Stmt}
@@ -10,22 +10,20 @@ use Rattle.php_ast.specs.expression.View.{Note, view}
 use Rattle.php_ast.specs.expression.Placed.{size, noted, notes_of}
 use Rattle.php_ast.specs.statement.Tree.{Statement, while, do_while, if_only, if_else, ElseIfs, no_elseif, and_elseif, Body, single, list_behind_colon, Statements, no_statement}
 use Rattle.php_ast.specs.statement.View.{elseifs_from, if_view, optional}
-use Rattle.php_ast.specs.statement.Placed.{size_body, noted_body, size_statement, noted_statement, size_statements, noted_statements, size_elseifs, noted_elseifs, size_head}
-use Rattle.php_grammar.specs.Run.{either}
+use Rattle.php_ast.specs.statement.Placed.{size_body, noted_body, size_statement, noted_statement, size_elseifs, noted_elseifs, size_head}
 use Rattle.php_grammar.specs.expression.Role.{paren, is_colon}
 use Rattle.php_grammar.specs.expression.Machine.{Nothing, Form, pick}
 use Rattle.php_grammar.specs.statement.Laws.{head_behind}
 use Rattle.php_grammar.specs.statement.Role.{Behind, by_else, by_elseif, by_while, by_endwhile, by_endfor, by_endforeach, behind, body_strength, ends_outside, Ending, closer}
-use Rattle.php_grammar.specs.statement.Forms.{Loop, while_loop, for_loop, foreach_loop, StatementList, of_if, of_loop, OpenStatement, list_open, if_open, elseif_open, else_open, loop_open, do_open, Around, Head, do_head, elseif_head, as_test, StatementState, due_statement, done, due_in_list, past_if, past_loop, looped, completed_statement}
-use Rattle.php_grammar.specs.statement.Machine.{begin, filled, headed, listing, list_end, loop_end, before_semicolon, released_bodies, reached_step, form_step, least_strength, past_statement, advance_statement}
-use Rattle.php_grammar.specs.statement.Depth.{statement_depth, begin_depth, form_depth, kept_bodies, depth_past, statement_depth_at}
-use Rattle.php_grammar.specs.statement.Reading.{halt_statement}
+use Rattle.php_grammar.specs.statement.Forms.{Loop, while_loop, for_loop, foreach_loop, of_if, of_loop, OpenStatement, list_open, if_open, elseif_open, else_open, loop_open, do_open, Around, Head, do_head, elseif_head, as_test, due_statement, done, due_in_list, past_if, past_loop, looped, completed_statement}
+use Rattle.php_grammar.specs.statement.Machine.{begin, filled, headed, listing, list_end, loop_end, before_semicolon, released_bodies, reached_step, least_strength, advance_statement}
+use Rattle.php_grammar.specs.statement.Depth.{statement_depth, begin_depth, form_depth, kept_bodies, statement_depth_at}
 use Rattle.php_reader.specs.Seen.{test}
 use Rattle.php_parse_statement.specs.Answer.{SpansStatement}
 use Rattle.php_parse_statement.specs.FormAnswer.{loop_behind, behind_parts, if_form, size_last}
 use Rattle.php_parse_statement.specs.Parts.{elseif_parts}
 use Rattle.php_parse_statement.specs.Walk.{short, walk_statement, Leads, Halts}
-use Rattle.php_parse_statement.proofs.Moves.{moves, sticks, alike, move, leads}
+use Rattle.php_parse_statement.proofs.Moves.{sticks, alike, move}
 
 -- ---- tests
 

@@ -1,19 +1,17 @@
 -- How the machine of statements moves, where nesting is limited.
-use Rattle.std.proofs.Common.{◌≡◌, ◌≤◌, ◌<◌, ℕ, suc, ◌+◌, Bool, true, false, Option, Some, None, List, [], ◌∷◌, ◌++◌, refl, sym, ◌∙◌, ap, arith}
+use Rattle.std.proofs.Common.{◌≡◌, ◌≤◌, ◌<◌, ℕ, suc, ◌+◌, Bool, true, false, Some, None, List, [], ◌∷◌, ◌++◌, refl, sym, ◌∙◌, ap, arith}
 use Rattle.std.specs.Prelude.{nat_lt}
 use Rattle.std.proofs.lemmas.Bool.{lt-ltb, le-ltb}
 use Rattle.php_ast.specs.Symbol.{Symbol}
-use Rattle.php_ast.specs.statement.Tree.{Statement}
-use Rattle.php_grammar.specs.Run.{ReadingOf}
-use Rattle.php_grammar.specs.expression.Machine.{Nothing, State, pick}
+use Rattle.php_grammar.specs.expression.Machine.{pick}
 use Rattle.php_grammar.specs.statement.Role.{Fixed, right_paren, is_fixed}
-use Rattle.php_grammar.specs.statement.Forms.{Around, StatementState, due_statement, done, due, in_expression, due_in_list, due_value, due_name, past_name, due_int, past_static_word, past_jump, past_if, past_loop, past_as, past_key, past_switch, due_case, past_default, past_block}
-use Rattle.php_ast.specs.statement.Tree.{Catches, no_catch, and_catch}
+use Rattle.php_grammar.specs.statement.Forms.{Around, StatementState, due, past_block}
+use Rattle.php_ast.specs.statement.Tree.{no_catch, and_catch}
 use Rattle.php_grammar.specs.statement.Machine.{due_rest, advance_statement}
 use Rattle.php_grammar.specs.statement.Depth.{statement_depth, fixed_depth, around, statement_depth_at}
-use Rattle.php_grammar.specs.statement.Reading.{halt_statement, fixed_symbols}
+use Rattle.php_grammar.specs.statement.Reading.{halt_statement}
 use Rattle.php_reader.specs.Seen.{test}
-use Rattle.php_parse_statement.specs.Walk.{OutcomeOf, short, deep, outcome_by, outcome, stepped, walk_statement, Leads, Halts, stopped}
+use Rattle.php_parse_statement.specs.Walk.{short, deep, outcome_by, outcome, stepped, walk_statement, Leads, Halts}
 
 -- ---- one symbol
 

@@ -1,5 +1,5 @@
 -- Names between commas, and what stands behind them.
-use Rattle.std.proofs.Common.{◌≡◌, ◌≢◌, ◌≤◌, ◌<◌, ℕ, ℤ, suc, ◌+◌, ◌-◌, Bool, true, false, Option, Some, None, List, [], ◌∷◌, ◌++◌, map, refl, sym, ◌∙◌, ap, subst, arith}
+use Rattle.std.proofs.Common.{◌≡◌, ◌≢◌, ◌≤◌, ℕ, ℤ, suc, ◌+◌, true, false, Option, Some, None, List, [], ◌∷◌, ◌++◌, map, refl, sym, ◌∙◌, ap, arith}
 use Rattle.std.specs.Prelude.{nat_lt}
 use Rattle.std.proofs.lemmas.Bool.{le-ltb}
 use Rattle.php_token.specs.Token.{Token}
@@ -15,23 +15,22 @@ use Rattle.php_ast.specs.expression.View.{Note, view, values_from}
 use Rattle.php_ast.specs.expression.Placed.{size_items, comma_size, noted, noted_items, notes_of}
 use Rattle.php_ast.specs.statement.Tree.{Sequence, empty, then_also, Name, Variable, Constant, Statement, globals, statics, constants, declares}
 use Rattle.php_ast.specs.statement.View.{sequence_from, sequence}
-use Rattle.php_ast.specs.statement.Placed.{size_separated, size_separator, noted_separated, size_name, noted_name, size_variable, noted_variable, size_constant, noted_constant}
+use Rattle.php_ast.specs.statement.Placed.{size_separated, noted_separated, size_name, noted_name, size_variable, noted_variable, size_constant, noted_constant}
 use Rattle.php_build.proofs.Views.{value_push}
 use Rattle.php_grammar.specs.Run.{if_some}
 use Rattle.php_grammar.specs.TooDeep.{depth_inside}
 use Rattle.php_grammar.specs.expression.Role.{comma, semicolon}
-use Rattle.php_grammar.specs.expression.Machine.{Nothing, Form, State, expects, past_static, advance, pick}
-use Rattle.php_grammar.specs.statement.Role.{at_statics, at_declare, statement_beginning, statement_keyword, statement_punct, Ending, closer, ending, left_paren, right_paren, fixed_semicolon, is_fixed, is_assign, name_text, variable_text}
+use Rattle.php_grammar.specs.expression.Machine.{Nothing, Form, State, past_static, advance, pick}
+use Rattle.php_grammar.specs.statement.Role.{at_statics, at_declare, statement_beginning, statement_keyword, statement_punct, Ending, closer, ending, left_paren, right_paren, is_fixed, is_assign, name_text, variable_text}
 use Rattle.php_grammar.specs.statement.Forms.{Around, as_line, as_static, as_constant, Names, of_globals, of_statics, of_constants, of_declare, StatementState, due_statement, done, due, due_name, past_name, due_int, past_static_word, in_expression}
-use Rattle.php_grammar.specs.statement.Machine.{begun, expected, filled, name_in, name_step, named_here, static_step, int_step, expression_step, before_semicolon, advance_statement}
-use Rattle.php_grammar.specs.statement.Depth.{statement_depth, begun_depth, names_depth, statement_depth_at}
-use Rattle.php_grammar.specs.statement.Reading.{halt_statement}
+use Rattle.php_grammar.specs.statement.Machine.{expected, filled, name_in, name_step, named_here, static_step, int_step, expression_step, before_semicolon}
+use Rattle.php_grammar.specs.statement.Depth.{statement_depth, names_depth}
 use Rattle.php_reader.specs.Seen.{test}
 use Rattle.php_parse_statement.specs.RoleView.{is_variable_symbol, int_value, head_int}
 use Rattle.php_parse_statement.specs.Answer.{SpansStatement, head_text}
 use Rattle.php_parse_statement.specs.NameAnswer.{SpansSoFar, variable_step, walk_variable}
-use Rattle.php_parse_statement.specs.Walk.{short, outcome, stepped, walk_statement, walk_behind, Leads, Halts, head_ending}
-use Rattle.php_parse_statement.proofs.Moves.{moves, sticks, alike, move, sink, leads, due_outside, due_inside}
+use Rattle.php_parse_statement.specs.Walk.{short, stepped, walk_statement, walk_behind, Leads, Halts, head_ending}
+use Rattle.php_parse_statement.proofs.Moves.{moves, sticks, alike, move, sink, leads, due_outside}
 use Rattle.php_parse_statement.proofs.Plain.{begins}
 use Rattle.php_parse_statement.proofs.Inside.{place_lacks}
 

@@ -1,29 +1,28 @@
 -- Statements that hold no other statement.
-use Rattle.std.proofs.Common.{◌≡◌, ◌≢◌, ◌≤◌, ◌<◌, ℕ, suc, ◌+◌, ◌-◌, Bool, true, false, Option, Some, None, List, [], ◌∷◌, ◌++◌, map, refl, sym, ◌∙◌, ap, arith}
+use Rattle.std.proofs.Common.{◌≡◌, ◌≢◌, ◌≤◌, ℕ, suc, ◌+◌, true, false, Option, Some, None, List, [], ◌∷◌, refl, sym, ◌∙◌, ap, arith}
 use Rattle.std.specs.Prelude.{nat_lt}
 use Rattle.std.proofs.lemmas.Bool.{le-ltb}
 use Rattle.php_token.specs.Token.{Token}
 use Rattle.php_ast.specs.Symbol.{Symbol}
-use Rattle.php_ast.specs.expression.Tree.{Tree, Items, none, and, plain}
+use Rattle.php_ast.specs.expression.Tree.{Tree, Items, none}
 use Rattle.php_ast.specs.expression.View.{Note}
-use Rattle.php_ast.specs.expression.Placed.{size, size_items, noted, noted_items, notes_of}
+use Rattle.php_ast.specs.expression.Placed.{size_items, noted_items, notes_of}
 use Rattle.php_ast.specs.statement.Tree.{Statement, Jump, blank, inline, expression, echo, unset, jump, throw}
 use Rattle.php_grammar.specs.Run.{either, if_some, whole_before}
 use Rattle.php_grammar.specs.TooDeep.{depth_inside}
-use Rattle.php_grammar.specs.expression.Role as role
 use Rattle.php_grammar.specs.expression.Role.{paren, comma, semicolon}
 use Rattle.php_grammar.specs.expression.Machine.{Nothing, Form, State, expects, advance, pick}
-use Rattle.php_grammar.specs.statement.Role.{StatementBeginning, at_blank, at_inline, at_jump, at_expression, statement_beginning, Ending, closer, as_word, no_ending, ending, fixed_semicolon, is_semicolon}
+use Rattle.php_grammar.specs.statement.Role.{StatementBeginning, at_expression, statement_beginning, Ending, closer, ending, is_semicolon}
 use Rattle.php_grammar.specs.statement.Forms.{Around, Values, of_echo, of_unset, as_line, as_value, as_jump, as_thrown, ExpressionPlace, StatementState, due_statement, done, in_expression, past_jump}
-use Rattle.php_grammar.specs.statement.Machine.{begun, begin, expected, entered, filled, advance_statement}
-use Rattle.php_grammar.specs.statement.Depth.{statement_depth, begun_depth, begin_depth, place_depth, values_depth, statement_depth_at}
+use Rattle.php_grammar.specs.statement.Machine.{begun, expected, entered, filled, advance_statement}
+use Rattle.php_grammar.specs.statement.Depth.{statement_depth, begun_depth, place_depth, values_depth, statement_depth_at}
 use Rattle.php_grammar.specs.statement.Reading.{halt_statement}
 use Rattle.php_reader.specs.Seen.{test}
 use Rattle.php_parse_operands.specs.Answer.{Spans}
 use Rattle.php_parse_statement.specs.RoleView.{head_begun}
 use Rattle.php_parse_statement.specs.Answer.{SpansStatement}
 use Rattle.php_parse_statement.specs.Walk.{short, outcome, stepped, walk_statement, walk_behind, Leads, Halts, head_ending}
-use Rattle.php_parse_statement.proofs.Moves.{moves, sticks, alike, move, leads}
+use Rattle.php_parse_statement.proofs.Moves.{alike, move}
 use Rattle.php_parse_statement.proofs.Inside.{place_lacks}
 
 -- ---- what a statement begins with

@@ -1,23 +1,19 @@
 -- What is seen of the first of some symbols.
-use Rattle.std.proofs.Common.{◌≡◌, ◌≢◌, ◌≤◌, ◌<◌, ℕ, ◌+◌, Bool, true, false, Option, Some, None, List, [], ◌∷◌, refl, sym, ◌∙◌, ap, subst, arith}
+use Rattle.std.proofs.Common.{◌≡◌, ◌≢◌, ℕ, Bool, true, false, Option, Some, None, List, [], ◌∷◌, refl, sym, ◌∙◌, ap}
 use Rattle.php_token.specs.Token.{Token, token_at}
 use Rattle.php_token.specs.declared.kind.Keyword.{Keyword}
 use Rattle.php_token.specs.declared.kind.Keyword.TheVariants as word
 use Rattle.php_ast.specs.declared.spot.Name as rust_name
 use Rattle.php_ast.specs.Symbol as symbol
 use Rattle.php_ast.specs.Symbol.{Symbol, keyword}
-use Rattle.php_ast.specs.expression.View.{spot_view}
 use Rattle.php_ast.specs.expression.Placed.{notes_of}
-use Rattle.php_ast.specs.statement.Placed.{noted_name}
-use Rattle.php_ast.specs.statement.View.{name_view}
 use Rattle.php_grammar.specs.expression.Role as role
 use Rattle.php_grammar.specs.expression.Role.{Beginning, at_leaf, at_static, at_template, at_exit, at_new, at_yield, at_enclosed, at_listed, at_prefix, at_nothing, beginning, Continuation, draws, closes, neither, continuation, continuation_keyword}
 use Rattle.php_grammar.specs.expression.Laws.{head_continuation}
-use Rattle.php_grammar.specs.statement.Machine.{named_here}
-use Rattle.php_grammar.specs.statement.Role.{Ending, closer, as_word, no_ending, ending, ending_of}
+use Rattle.php_grammar.specs.statement.Role.{closer, as_word, ending, ending_of}
 use Rattle.php_reader.specs.Seen.{Stands, Shows, IsNamed, head_beginning, rest}
 use Rattle.php_parse_operands.specs.Walk as inner
-use Rattle.php_parse_statement.specs.Answer.{ShowsName, head_text, text_if}
+use Rattle.php_parse_statement.specs.Answer.{ShowsName, head_text}
 use Rattle.php_parse_statement.specs.RoleView.{IsEnding}
 use Rattle.php_parse_statement.specs.Walk.{head_ending, sunk, sunk_here}
 

@@ -1,5 +1,5 @@
 -- The heads of `for` and `foreach`.
-use Rattle.std.proofs.Common.{◌≡◌, ◌≢◌, ◌≤◌, ◌<◌, ℕ, suc, ◌+◌, ◌-◌, Bool, true, false, Option, Some, None, List, [], ◌∷◌, refl, sym, ◌∙◌, ap, arith}
+use Rattle.std.proofs.Common.{◌≡◌, ◌≢◌, ◌≤◌, ℕ, suc, ◌+◌, ◌-◌, Bool, true, false, Option, Some, None, List, [], ◌∷◌, refl, sym, ◌∙◌, ap, arith}
 use Rattle.std.specs.Prelude.{nat_lt}
 use Rattle.std.proofs.lemmas.Bool.{le-ltb}
 use Rattle.php_token.specs.Token.{Token}
@@ -16,20 +16,15 @@ use Rattle.php_grammar.specs.expression.Machine.{Nothing, Form, expects, pick}
 use Rattle.php_grammar.specs.statement.Role.{Ending, closer, as_word, no_ending, ending}
 use Rattle.php_grammar.specs.statement.Forms.{Values, of_echo, of_starts, of_tests, of_steps, for_loop, as_value, as_walked, as_first, as_second, due_value, past_as, past_key, past_loop, Around, ExpressionPlace, StatementState}
 use Rattle.php_grammar.specs.statement.Machine.{expected, entered, filled, values_end, values_step, advance_statement}
-use Rattle.php_grammar.specs.statement.Depth.{statement_depth, place_depth, statement_depth_at}
+use Rattle.php_grammar.specs.statement.Depth.{statement_depth, place_depth}
 use Rattle.php_grammar.specs.statement.Reading.{halt_statement, values_rest, values_statement, missing_around, completed_around}
-use Rattle.php_reader.specs.Seen.{rest, test}
-use Rattle.php_reader.specs.declared.fail.Stop.{Stop}
-use Rattle.php_reader.specs.declared.fail.Stop.TheVariants.{Syntax, TooDeep, NoMemory}
-use Rattle.php_parse_operands.specs.Walk as inner
-use Rattle.php_parse_statement.specs.Answer.{SpansStatement, Fails, FailsInside}
+use Rattle.php_reader.specs.Seen.{test}
+use Rattle.php_parse_statement.specs.Answer.{SpansStatement}
 use Rattle.php_parse_statement.specs.HeadAnswer.{IsTargetPlace, IsEnded}
-use Rattle.php_parse_statement.specs.Walk.{short, deep, stepped, outcome, walk_statement, walk_behind, expression_outcome, Leads, Halts, head_ending}
-use Rattle.php_parse_statement.proofs.Bridge.{passed}
-use Rattle.php_parse_statement.proofs.Inside.{expression_walk, place_lacks, read_halts}
+use Rattle.php_parse_statement.specs.Walk.{short, deep, stepped, outcome, walk_statement, walk_behind, Leads, Halts, head_ending}
+use Rattle.php_parse_statement.proofs.Inside.{place_lacks}
 use Rattle.php_parse_statement.proofs.Moves.{moves, sinks, Some_of, lacks_by}
 use Rattle.php_parse_statement.proofs.Plain.{enters}
-use Rattle.php_parse_statement.proofs.Fails.{later, failed}
 
 -- ---- where a target is due
 

@@ -13,7 +13,7 @@ use Rattle.php_ast.specs.statement.View.{name_view, statement_view}
 use Rattle.php_ast.specs.statement.Placed.{size_statement, noted_name, noted_statement}
 use Rattle.php_grammar.specs.expression.Role as role
 use Rattle.php_grammar.specs.expression.Machine.{Nothing, Form}
-use Rattle.php_grammar.specs.statement.Role.{Ending, closer, ending}
+use Rattle.php_grammar.specs.statement.Role.{closer}
 use Rattle.php_grammar.specs.statement.Forms.{Around, Values, as_line, as_value, StatementState, due_statement, done}
 use Rattle.php_grammar.specs.statement.Machine.{expected, named_here}
 use Rattle.php_grammar.specs.statement.Depth.{statement_depth, values_depth}

@@ -1,5 +1,5 @@
 -- What the functions of the parser answer that read lists of statements, blocks and bodies.
-use Rattle.std.specs.Prelude.{◌≡◌, ◌≢◌, ◌≤◌, ◌<◌, ℕ, ◌+◌, Bool, true, false, Option, Some, None, Result, Ok, Err, List, ◌∷◌, map, length}
+use Rattle.std.specs.Prelude.{◌≡◌, ◌≢◌, ◌≤◌, ◌<◌, ℕ, ◌+◌, true, Some, None, Result, Ok, Err, List, ◌∷◌, length}
 use Rattle.php_token.specs.Token.{Token}
 use Rattle.php_ast.specs.declared.statement.Stmt.{Stmt}
 use Rattle.php_ast.specs.expression.Placed.{notes_of}
@@ -8,7 +8,7 @@ use Rattle.php_ast.specs.statement.View.{statement_view, statements_view}
 use Rattle.php_ast.specs.statement.Placed.{size_statements, noted_statements}
 use Rattle.php_grammar.specs.expression.Machine.{Nothing}
 use Rattle.php_grammar.specs.statement.Laws.{head_behind}
-use Rattle.php_grammar.specs.statement.Role.{Behind, by_while, by_brace, by_other}
+use Rattle.php_grammar.specs.statement.Role.{Behind, by_brace}
 use Rattle.php_grammar.specs.statement.Forms.{StatementList, of_block, OpenStatement, Around, StatementState, due_statement, done, due_in_list}
 use Rattle.php_grammar.specs.statement.Machine.{list_end}
 use Rattle.php_grammar.specs.statement.Depth.{is_body_at, statement_depth, depth_outside}

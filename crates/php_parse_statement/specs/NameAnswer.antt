@@ -1,12 +1,12 @@
 -- What the functions of the parser answer that read names and what stands behind them.
-use Rattle.std.specs.Prelude.{◌≡◌, ◌≤◌, ◌<◌, ℕ, suc, ◌+◌, nat_lt, Option, Some, None, Result, Ok, Err, List, [], ◌∷◌, map, length}
+use Rattle.std.specs.Prelude.{◌≡◌, ◌≤◌, ◌<◌, ℕ, suc, ◌+◌, nat_lt, Option, Some, None, Result, Ok, Err, List, [], ◌∷◌, length}
 use Rattle.php_token.specs.Token.{Token}
 use Rattle.php_ast.specs.declared.spot.Name as rust_name
 use Rattle.php_ast.specs.declared.statement.VariableItem.{VariableItem}
 use Rattle.php_ast.specs.declared.statement.ConstantItem.{ConstantItem}
 use Rattle.php_ast.specs.Symbol.{Symbol}
 use Rattle.php_ast.specs.expression.Placed.{notes_of}
-use Rattle.php_ast.specs.statement.Tree.{Sequence, empty, then_also, Name, Variable, Constant, statics}
+use Rattle.php_ast.specs.statement.Tree.{Sequence, then_also, Name, Variable, Constant, statics}
 use Rattle.php_ast.specs.statement.View.{sequence, name_view, variable_view, constant_view}
 use Rattle.php_ast.specs.statement.Placed.{size_separated, size_separator, noted_separated, size_name, noted_name, size_variable, noted_variable, size_constant, noted_constant}
 use Rattle.php_grammar.specs.expression.Role.{comma, semicolon}

@@ -8,7 +8,7 @@ use Rattle.php_grammar.specs.expression.Role.{beginning, Beginning, at_nothing}
 use Rattle.php_grammar.specs.expression.Machine.{Nothing, Form, expects}
 use Rattle.php_grammar.specs.statement.Role.{Ending, no_ending, ending}
 use Rattle.php_grammar.specs.statement.Forms.{Around, ExpressionPlace, StatementState}
-use Rattle.php_grammar.specs.statement.Machine.{begin, filled, advance_statement}
+use Rattle.php_grammar.specs.statement.Machine.{filled, advance_statement}
 use Rattle.php_grammar.specs.statement.Depth.{statement_depth, begin_depth, place_depth, statement_depth_at}
 use Rattle.php_grammar.specs.statement.Reading.{halt_statement}
 use Rattle.php_parse_operands.specs.Walk as inner

@@ -24,6 +24,7 @@ pub(crate) fn values(reader: &Reader, at: usize) -> Result<Listed<Expr>, Stop>
             expr,
             edge: _,
             next: behind,
+            behind: _,
         } = expression(reader, next)?;
         items.push(expr)?;
         if !ends(reader.tokens, behind, Closer::Comma) {

@@ -3,7 +3,7 @@ use Rattle.php_token.specs.Token.{token_at}
 use Rattle.php_reader.specs.RoleView.{start_view}
 use Rattle.php_reader.specs.Seen.{rest}
 use Rattle.php_parse_body.proofs.Onwards.{begun, start_some}
-use Rattle.php_parse_statement.proofs.Sees.{sunk_deep, sunk_short}
+use Rattle.php_parse_statement.proofs.Sees.{sunk_deep}
 use Rattle.php_parse_statement.proofs.expression.sunk.Goals as goal
 
 pub returns-in_default : goal.returns-in_default

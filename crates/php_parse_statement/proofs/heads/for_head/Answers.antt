@@ -1,7 +1,7 @@
-use Rattle.std.proofs.Common.{◌+◌, ◌-◌, List, [], ◌∷◌, refl, arith}
+use Rattle.std.proofs.Common.{◌+◌, ◌-◌, [], refl, arith}
 use Rattle.std.proofs.lemmas.Result.{err_from_is_err_and}
 use Rattle.php_grammar.specs.statement.Role.{left_paren}
-use Rattle.php_grammar.specs.statement.Forms.{of_starts, of_tests, of_steps, for_loop, due, due_value, past_loop}
+use Rattle.php_grammar.specs.statement.Forms.{of_starts, of_tests, of_steps, for_loop, due_value, past_loop}
 use Rattle.php_grammar.specs.statement.Depth.{statement_depth}
 use Rattle.php_parse_statement.proofs.Fails.{later, outwards}
 use Rattle.php_parse_statement.proofs.Moves.{leads, due_halts, due_outside}

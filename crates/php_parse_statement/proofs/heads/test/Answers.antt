@@ -1,4 +1,4 @@
-use Rattle.std.proofs.Common.{◌+◌, ◌-◌, List, [], ◌∷◌, refl, ap, arith}
+use Rattle.std.proofs.Common.{◌+◌, ◌-◌, [], refl, ap, arith}
 use Rattle.std.proofs.lemmas.Result.{err_from_is_err_and}
 use Rattle.php_grammar.specs.statement.Role.{left_paren}
 use Rattle.php_grammar.specs.statement.Forms.{as_test}

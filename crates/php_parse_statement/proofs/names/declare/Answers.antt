@@ -1,7 +1,7 @@
-use Rattle.std.proofs.Common.{◌+◌, List, [], ◌∷◌, refl, ap, arith}
+use Rattle.std.proofs.Common.{[], ◌∷◌, refl, arith}
 use Rattle.php_ast.specs.statement.Tree.{declares}
 use Rattle.php_grammar.specs.statement.Role.{right_paren, fixed_semicolon}
-use Rattle.php_grammar.specs.statement.Forms.{of_declare, due, due_int, due_name, past_name, done}
+use Rattle.php_grammar.specs.statement.Forms.{of_declare, due, due_int, past_name, done}
 use Rattle.php_grammar.specs.statement.Machine.{before_semicolon, named_here}
 use Rattle.php_parse_statement.proofs.Moves.{leads, leads_halts, due_halts, due_inside, due_outside}
 use Rattle.php_parse_statement.proofs.Named.{declare_named, declare_assigned, int_reads, declare_spans}

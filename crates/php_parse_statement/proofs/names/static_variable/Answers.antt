@@ -1,6 +1,6 @@
 use Rattle.std.proofs.Common.{◌+◌, ◌∙◌, Some, None, refl, ap, arith}
 use Rattle.std.proofs.lemmas.Result.{err_from_is_err_and}
-use Rattle.php_grammar.specs.statement.Forms.{as_static, of_statics, past_name}
+use Rattle.php_grammar.specs.statement.Forms.{as_static, of_statics}
 use Rattle.php_grammar.specs.statement.Machine.{expected, named_here}
 use Rattle.php_reader.specs.Seen.{rest}
 use Rattle.php_parse_statement.specs.Walk.{walk_behind}

@@ -1,4 +1,4 @@
-use Rattle.std.proofs.Common.{◌+◌, refl, arith}
+use Rattle.std.proofs.Common.{refl, arith}
 use Rattle.php_ast.specs.statement.Tree.{blank}
 use Rattle.php_grammar.specs.statement.Role.{at_blank}
 use Rattle.php_parse_statement.proofs.Plain.{begins, blank_spans}

@@ -1,4 +1,4 @@
-use Rattle.std.proofs.Common.{◌+◌, refl, arith}
+use Rattle.std.proofs.Common.{refl, arith}
 use Rattle.php_token.specs.Token.{token_at}
 use Rattle.php_ast.specs.statement.Tree.{inline}
 use Rattle.php_grammar.specs.statement.Role.{at_inline}

@@ -1,6 +1,6 @@
 use Rattle.std.proofs.Common.{◌+◌, ◌-◌, refl, ap, arith}
 use Rattle.std.proofs.lemmas.Result.{err_from_is_err_and}
-use Rattle.std.proofs.Common.{List, [], ◌∷◌}
+use Rattle.std.proofs.Common.{[], ◌∷◌}
 use Rattle.php_ast.specs.expression.Tree.{none, and, plain}
 use Rattle.php_ast.specs.statement.Tree.{unset}
 use Rattle.php_grammar.specs.statement.Role.{at_unset, left_paren, fixed_semicolon}

@@ -1,4 +1,4 @@
-use Rattle.std.proofs.Common.{◌∷◌, ◌∙◌, map, refl, ap, arith}
+use Rattle.std.proofs.Common.{◌∙◌, map, refl, ap, arith}
 use Rattle.std.proofs.lemmas.Result.{err_from_is_err_and}
 use Rattle.php_ast.specs.expression.Tree.{none, and, plain}
 use Rattle.php_ast.specs.expression.View.{view, values_from}

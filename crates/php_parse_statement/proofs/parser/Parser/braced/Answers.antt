@@ -1,4 +1,4 @@
-use Rattle.std.proofs.Common.{◌+◌, refl, arith}
+use Rattle.std.proofs.Common.{refl, arith}
 use Rattle.std.proofs.lemmas.Result.{err_from_is_err_and}
 use Rattle.php_grammar.specs.statement.Forms.{due_in_list}
 use Rattle.php_parse_statement.proofs.Moves.{leads, leads_halts}

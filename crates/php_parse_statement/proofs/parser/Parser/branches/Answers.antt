@@ -1,6 +1,5 @@
-use Rattle.std.proofs.Common.{◌+◌, ◌∙◌, ◌∷◌, Some, None, refl, ap, arith}
+use Rattle.std.proofs.Common.{◌∙◌, ◌∷◌, Some, None, refl, ap, arith}
 use Rattle.std.proofs.lemmas.Result.{err_from_is_err_and}
-use Rattle.php_ast.specs.expression.Placed.{notes_of}
 use Rattle.php_ast.specs.statement.Tree.{no_elseif}
 use Rattle.php_ast.specs.statement.View.{statement_view}
 use Rattle.php_grammar.specs.statement.Forms.{if_open, else_open, due_statement, done}

@@ -1,4 +1,4 @@
-use Rattle.std.proofs.Common.{◌+◌, List, [], ◌∷◌, refl, arith}
+use Rattle.std.proofs.Common.{[], refl, arith}
 use Rattle.php_grammar.specs.statement.Role.{fixed_semicolon}
 use Rattle.php_grammar.specs.statement.Forms.{done}
 use Rattle.php_grammar.specs.statement.Machine.{before_semicolon}

@@ -1,9 +1,9 @@
-use Rattle.std.proofs.Common.{◌+◌, ◌∙◌, List, [], ◌∷◌, refl, ap, arith}
+use Rattle.std.proofs.Common.{◌+◌, ◌∙◌, [], ◌∷◌, refl, ap, arith}
 use Rattle.php_ast.specs.statement.View.{statement_view}
 use Rattle.std.proofs.lemmas.Result.{err_from_is_err_and}
 use Rattle.php_ast.specs.statement.Tree.{do_while}
 use Rattle.php_grammar.specs.statement.Role.{at_do, fixed_semicolon}
-use Rattle.php_grammar.specs.statement.Forms.{do_head, do_open, due, due_statement, done}
+use Rattle.php_grammar.specs.statement.Forms.{do_head, do_open, due_statement, done}
 use Rattle.php_grammar.specs.statement.Machine.{headed, before_semicolon}
 use Rattle.php_parse_statement.proofs.Fails.{later}
 use Rattle.php_parse_statement.proofs.Moves.{leads, leads_halts, due_halts, due_outside}

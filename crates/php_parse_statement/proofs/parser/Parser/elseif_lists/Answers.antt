@@ -1,4 +1,4 @@
-use Rattle.std.proofs.Common.{◌+◌, ◌∙◌, List, [], ◌∷◌, map, refl, ap, arith}
+use Rattle.std.proofs.Common.{◌+◌, [], ◌∷◌, map, refl, ap, arith}
 use Rattle.std.proofs.lemmas.Result.{err_from_is_err_and}
 use Rattle.php_ast.specs.statement.Tree.{no_statement, no_elseif_list, and_elseif_list}
 use Rattle.php_ast.specs.statement.View.{elseif_lists_from}

@@ -1,4 +1,4 @@
-use Rattle.std.proofs.Common.{◌+◌, ◌∙◌, Some, None, List, [], ◌∷◌, refl, ap, arith}
+use Rattle.std.proofs.Common.{◌+◌, ◌∙◌, Some, None, [], ◌∷◌, refl, ap, arith}
 use Rattle.std.proofs.lemmas.Result.{err_from_is_err_and}
 use Rattle.php_ast.specs.statement.Tree.{if_lists, if_else_lists, no_statement, no_elseif_list}
 use Rattle.php_grammar.specs.statement.Role.{by_else, by_endif, fixed_colon}

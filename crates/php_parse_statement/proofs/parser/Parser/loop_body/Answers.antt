@@ -1,9 +1,9 @@
-use Rattle.std.proofs.Common.{◌+◌, ◌∙◌, List, [], ◌∷◌, refl, ap, arith}
+use Rattle.std.proofs.Common.{◌+◌, ◌∙◌, [], ◌∷◌, refl, ap, arith}
 use Rattle.php_ast.specs.statement.View.{statement_view}
 use Rattle.std.proofs.lemmas.Result.{err_from_is_err_and}
 use Rattle.php_ast.specs.statement.Tree.{no_statement, single, list_behind_colon}
 use Rattle.php_grammar.specs.statement.Role.{fixed_semicolon}
-use Rattle.php_grammar.specs.statement.Forms.{of_loop, loop_open, due, due_in_list, due_statement, done, looped}
+use Rattle.php_grammar.specs.statement.Forms.{of_loop, loop_open, due_in_list, due_statement, done, looped}
 use Rattle.php_grammar.specs.statement.Machine.{before_semicolon}
 use Rattle.php_parse_statement.specs.RoleView.{after_view}
 use Rattle.php_parse_statement.proofs.Fails.{later}
