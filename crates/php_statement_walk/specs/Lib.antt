@@ -1,0 +1,5 @@
+pub mod Counts
+pub mod Parts
+pub mod Met
+pub mod Gives
+pub mod Script
