@@ -1,10 +1,10 @@
 -- The first of several faults: how going over them finds it.
-use Rattle.std.proofs.Common.{◌≡◌, ℕ, ◌<◌, ◌≤◌, ◌⊎◌, Bool, true, false, ◌&&◌, ◌||◌, nat_lt, nat_eq, cond, Option, Some, None, List, [], ◌∷◌, ◌++◌, map, flat_map, refl, sym, ◌∙◌, ap, arith, subst}
+use Rattle.std.proofs.Common.{◌≡◌, Bool, true, false, cond, Option, Some, None, List, [], ◌∷◌, ◌++◌, refl, ◌∙◌, arith, subst}
 use mathlib.Core.Logic.{inl, inr}
 use Rattle.std.proofs.lemmas.Grind.{common_steps}
 use Rattle.php_legality.specs.declared.fault.Fault.{Fault}
 use Rattle.php_legality.specs.Lists.{Has}
-use Rattle.php_legality.specs.First.{rank, IsNoLater, IsFirst, is_before, sooner, first_from}
+use Rattle.php_legality.specs.First.{IsNoLater, IsFirst, is_before, sooner, first_from}
 
 pub first_from_joined : (met : Option Fault) (xs ys : List Fault) → first_from met (xs ++ ys) ≡ first_from (first_from met xs) ys
 first_from_joined met [] ys = refl
@@ -46,6 +46,7 @@ wider_second x m xs (Some a) later h = (among h.0, each)
     among : Has (m ∷ xs) a → Has (m ∷ x ∷ xs) a
     among (inl is) = inl is
     among (inr has) = inr (inr has)
+
     each : (b : Fault) → Has (m ∷ x ∷ xs) b → IsNoLater a b
     each b (inl is) = h.1 b (inl is)
     each b (inr (inl is)) = subst (IsNoLater a) is (no_later_trans a m x (h.1 m (inl refl)) later)

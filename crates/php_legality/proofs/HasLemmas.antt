@@ -53,9 +53,11 @@ has_apart f g (x ∷ xs) b has = from_parts (λ h. has_apart f g xs b h) (has_ei
     from_rest : Has (flat_map f xs) b ⊎ Has (flat_map g xs) b → Has ((f x ++ flat_map f xs) ++ (g x ++ flat_map g xs)) b
     from_rest (inl h) = has_left (f x ++ flat_map f xs) (g x ++ flat_map g xs) b (has_right (f x) (flat_map f xs) b h)
     from_rest (inr h) = has_right (f x ++ flat_map f xs) (g x ++ flat_map g xs) b (has_right (g x) (flat_map g xs) b h)
+
     from_here : Has (f x) b ⊎ Has (g x) b → Has ((f x ++ flat_map f xs) ++ (g x ++ flat_map g xs)) b
     from_here (inl h) = has_left (f x ++ flat_map f xs) (g x ++ flat_map g xs) b (has_left (f x) (flat_map f xs) b h)
     from_here (inr h) = has_right (f x ++ flat_map f xs) (g x ++ flat_map g xs) b (has_left (g x) (flat_map g xs) b h)
+
     from_parts : (Has (flat_map (λ y. f y ++ g y) xs) b → Has (flat_map f xs ++ flat_map g xs) b) → Has (f x ++ g x) b ⊎ Has (flat_map (λ y. f y ++ g y) xs) b → Has ((f x ++ flat_map f xs) ++ (g x ++ flat_map g xs)) b
     from_parts rec (inl h) = from_here (has_either (f x) (g x) b h)
     from_parts rec (inr h) = from_rest (has_either (flat_map f xs) (flat_map g xs) b (rec h))
@@ -66,16 +68,20 @@ has_together f g (x ∷ xs) b has = from_sides (λ h. has_together f g xs b h) (
   where
     later : Has (flat_map (λ y. f y ++ g y) xs) b → Has ((f x ++ g x) ++ flat_map (λ y. f y ++ g y) xs) b
     later h = has_right (f x ++ g x) (flat_map (λ y. f y ++ g y) xs) b h
+
     here : Has (f x ++ g x) b → Has ((f x ++ g x) ++ flat_map (λ y. f y ++ g y) xs) b
     here h = has_left (f x ++ g x) (flat_map (λ y. f y ++ g y) xs) b h
+
     on_left : (Has (flat_map f xs ++ flat_map g xs) b → Has (flat_map (λ y. f y ++ g y) xs) b) → Has (f x) b ⊎ Has (flat_map f xs) b
         → Has ((f x ++ g x) ++ flat_map (λ y. f y ++ g y) xs) b
     on_left rec (inl h) = here (has_left (f x) (g x) b h)
     on_left rec (inr h) = later (rec (has_left (flat_map f xs) (flat_map g xs) b h))
+
     on_right : (Has (flat_map f xs ++ flat_map g xs) b → Has (flat_map (λ y. f y ++ g y) xs) b) → Has (g x) b ⊎ Has (flat_map g xs) b
         → Has ((f x ++ g x) ++ flat_map (λ y. f y ++ g y) xs) b
     on_right rec (inl h) = here (has_right (f x) (g x) b h)
     on_right rec (inr h) = later (rec (has_right (flat_map f xs) (flat_map g xs) b h))
+
     from_sides : (Has (flat_map f xs ++ flat_map g xs) b → Has (flat_map (λ y. f y ++ g y) xs) b) → Has (f x ++ flat_map f xs) b ⊎ Has (g x ++ flat_map g xs) b
         → Has ((f x ++ g x) ++ flat_map (λ y. f y ++ g y) xs) b
     from_sides rec (inl h) = on_left rec (has_either (f x) (flat_map f xs) b h)

@@ -4,11 +4,11 @@ use Rattle.std.specs.Str.{str_eq_ignore_ascii_case}
 use Rattle.php_ast.specs.expression.Tree.{Tree}
 use Rattle.php_ast.specs.expression.Tree as tree
 use Rattle.php_ast.specs.expression.View.{Note}
-use Rattle.php_ast.specs.statement.Tree.{Sequence, Name, Variable, Statement, Statements, no_statement, and_statement}
-use Rattle.php_ast.specs.declaration.Tree.{Base, of_name, of_array, of_callable, Type_of, Param, Signature, Function, Modifier, Method, Rule, Member, uses, uses_by, class_constants, method, properties, Class, Interface, Trait, Item, of_statement, of_function, of_class, of_interface, of_trait, Script}
+use Rattle.php_ast.specs.statement.Tree.{Name, Variable, Statement}
+use Rattle.php_ast.specs.declaration.Tree.{Base, of_name, of_array, of_callable, Type_of, Signature, Method, Member, class_constants, method, properties, Item, of_statement, of_function, of_class, of_interface, of_trait}
 pub use Rattle.php_legality.specs.declared.scope.Scope.{Scope}
 use Rattle.php_legality.specs.Lists.{elements, where_some}
-use Rattle.php_legality.specs.Expressions.{valued, Used, all_used}
+use Rattle.php_legality.specs.Expressions.{Used, all_used}
 use Rattle.php_legality.specs.Statements.{Inside, Around, inside_list, all_inside, own, own_constants, first_values, as_values}
 
 abbrev pub outermost : Scope

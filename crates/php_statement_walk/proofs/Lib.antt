@@ -1,4 +1,0 @@
-mod Weights
-mod Lists
-mod Views
-pub mod Bridge

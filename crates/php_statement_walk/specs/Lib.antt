@@ -1,5 +1,0 @@
-pub mod Counts
-pub mod Parts
-pub mod Met
-pub mod Gives
-pub mod Script
