@@ -1,13 +1,14 @@
 -- Constant expressions and names among operands with suffixes, runs and lists of items.
 use Rattle.std.specs.Prelude.{◌==◌}
-use Rattle.std.proofs.Common.{◌≡◌, ℕ, Bool, true, false, ◌&&◌, Option, Some, None, List, [], ◌∷◌, map, length, refl, sym, ◌∙◌, ap, arith}
+use Rattle.std.proofs.Common.{◌≡◌, ℕ, Bool, true, false, ◌&&◌, Option, Some, None, List, [], ◌∷◌, map, length, get_or, refl, sym, ◌∙◌, ap, arith}
 use Rattle.std.proofs.lemmas.Grind.{common_steps}
 use Rattle.php_token.specs.declared.kind.Keyword.{Keyword}
+use Rattle.php_ast.specs.declared.spot.Spot.{Spot}
 use Rattle.php_ast.specs.declared.spot.Word.{Word}
 use Rattle.php_ast.specs.declared.operator.ArrayForm.{ArrayForm}
 use Rattle.php_ast.specs.declared.operator.ArrayForm.TheVariants as form
 use Rattle.php_ast.specs.declared.expression.Expr.{Expr}
-use Rattle.php_ast.specs.declared.expression.Expr.TheVariants.{Chain, Run}
+use Rattle.php_ast.specs.declared.expression.Expr.TheVariants.{Array, Chain, Run}
 use Rattle.php_ast.specs.declared.expression.Item.{Item}
 use Rattle.php_ast.specs.declared.expression.Item.TheVariants as item
 use Rattle.php_ast.specs.declared.expression.Suffix.{Suffix}
@@ -17,12 +18,13 @@ use Rattle.php_ast.specs.declared.expression.Named.TheVariants as arrow
 use Rattle.php_ast.specs.declared.expression.Member.TheVariants as member
 use Rattle.php_ast.specs.declared.expression.Link.{Link}
 use Rattle.php_ast.specs.declared.expression.Link.TheVariants as link
-use Rattle.php_ast.specs.expression.Tree.{Tree, Items}
-use Rattle.php_ast.specs.expression.View.{Note, view, word_of, word_view, member_view, item_more, items_from, with_suffix, with_suffixes, with_link, with_links, property_of}
-use Rattle.php_ast.specs.expression.Parts.{suffix_with, link_with}
+use Rattle.php_ast.specs.expression.Tree.{Tree, Items, listed, array, none}
+use Rattle.php_ast.specs.expression.View.{Note, spot_view, view, word_of, word_view, member_view, item_more, items_from, with_suffix, with_suffixes, with_link, with_links, property_of}
+use Rattle.php_ast.specs.expression.Parts.{item_with, suffix_with, link_with}
 use Rattle.php_ast.proofs.Views.{view_chain, view_run}
 use Rattle.php_legality.specs.Constants.{is_name, is_word, is_constant, are_constant}
-use Rattle.php_constants.specs.Elements.{is_constant_item, is_constant_link, is_constant_suffix, all_constant}
+use Rattle.php_constants.proofs.Views.{view_array}
+use Rattle.php_constants.specs.Elements.{is_constant_item, is_constant_link, is_constant_suffix, is_constant_access, is_constant_array, all_constant}
 
 and_false : (b : Bool) → (b && false) ≡ false
 and_false true = refl
@@ -155,3 +157,28 @@ items_constant before [] = sym (and_true (are_constant before))
 items_constant before (x ∷ xs) =
     items_constant (item_more before x) xs ∙ ap (λ b. b && all_constant is_constant_item xs) (one_item before x)
     ∙ and_assoc (are_constant before) (is_constant_item x) (all_constant is_constant_item xs)
+
+-- ---- as the check asks
+
+pub chain_access : (e : Expr) (suffixes : List (Suffix Expr)) → false ≡ (length suffixes == 0) → (is_name (view e) && is_constant_access suffixes) ≡ is_constant (view (Chain e suffixes))
+chain_access e [] some = absurd (cc)
+chain_access e (x ∷ []) some = chain_of_one e x
+chain_access e (x ∷ y ∷ xs) some = and_false (is_name (view e)) ∙ chain_of_more e x y xs
+
+pub one_alone : (xs : List (Suffix Expr)) (x : Suffix Expr) → length xs ≡ 1 → is_constant_suffix (get_or xs 0 x) ≡ is_constant_access xs
+one_alone [] x one = absurd (omega arith)
+one_alone (y ∷ []) x one = refl
+one_alone (y ∷ z ∷ xs) x one = absurd (omega arith)
+
+pub not_alone : (xs : List (Suffix Expr)) → (length xs ≡ 1 → ⊥) → false ≡ is_constant_access xs
+not_alone [] more = refl
+not_alone (y ∷ []) more = absurd (more refl)
+not_alone (y ∷ z ∷ xs) more = refl
+
+array_constant : (at : Note) (f : ArrayForm) (items : List (Item (Tree Note))) → is_constant_array f items ≡ is_constant (listed at (array f) (items_from none items))
+array_constant at form.Brackets items = sym (items_constant none items)
+array_constant at form.Array items = sym (items_constant none items)
+array_constant at form.List items = refl
+
+pub array_is_constant : (spot : Spot) (f : ArrayForm) (items : List (Item Expr)) → is_constant_array f (map (item_with view) items) ≡ is_constant (view (Array spot f items))
+array_is_constant spot f items = array_constant (spot_view spot) f (map (item_with view) items) ∙ ap (λ t. is_constant t) (sym (view_array spot f items))

@@ -10,9 +10,9 @@ use Rattle.php_ast.specs.declared.expression.Link.{Link}
 use Rattle.php_ast.specs.declared.expression.Link.TheVariants as link
 use Rattle.php_ast.specs.declared.operator.ArrayForm.{ArrayForm}
 use Rattle.php_ast.specs.declared.operator.ArrayForm.TheVariants as form
-use Rattle.php_ast.specs.expression.Tree.{Tree, Items}
+use Rattle.php_ast.specs.expression.Tree.{Tree}
 use Rattle.php_ast.specs.expression.View.{Note}
-use Rattle.php_legality.specs.Constants.{is_constant, are_constant}
+use Rattle.php_legality.specs.Constants.{is_constant}
 
 abbrev pub is_constant_item : Item (Tree Note) → Bool
 is_constant_item item.Missing = true
@@ -35,7 +35,13 @@ abbrev pub all_constant : {A : Type 0} → (A → Bool) → List A → Bool
 all_constant test [] = true
 all_constant test (x ∷ xs) = test x && all_constant test xs
 
-abbrev pub is_constant_array : ArrayForm → Items Note → Bool
-is_constant_array form.Brackets items = are_constant items
-is_constant_array form.Array items = are_constant items
+abbrev pub is_constant_array : ArrayForm → List (Item (Tree Note)) → Bool
+is_constant_array form.Brackets items = all_constant is_constant_item items
+is_constant_array form.Array items = all_constant is_constant_item items
 is_constant_array form.List items = false
+
+-- one suffix alone, of a constant of a class
+abbrev pub is_constant_access : List (Suffix Expr) → Bool
+is_constant_access [] = false
+is_constant_access (x ∷ []) = is_constant_suffix x
+is_constant_access (x ∷ y ∷ xs) = false

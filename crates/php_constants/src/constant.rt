@@ -2,8 +2,7 @@
 
 ghost use Rattle.std.specs.Prelude.{◌≡◌, map};
 ghost use Rattle.php_ast.specs.expression.Parts.{item_with, link_with};
-ghost use Rattle.php_ast.specs.expression.Tree.{none};
-ghost use Rattle.php_ast.specs.expression.View.{view, items_from};
+ghost use Rattle.php_ast.specs.expression.View.{view};
 ghost use Rattle.php_legality.specs.Constants as spec;
 ghost use Rattle.php_constants.specs.Elements as element;
 
@@ -65,6 +64,18 @@ fn is_constant_suffix(suffix: &Suffix<Expr>) -> bool
     }
 }
 
+// Whether the suffixes are one `:: name` alone.
+fn is_constant_access(suffixes: &[Suffix<Expr>]) -> bool
+    ensures { result ≡ element.is_constant_access suffixes.now }
+{
+    let count = suffixes.len();
+    if count == 1 {
+        is_constant_suffix(&suffixes[0])
+    } else {
+        false
+    }
+}
+
 /// Whether an expression is constant: made of literals, arrays, constants and constants of named classes by operators that have no effect.
 #[cycle(constants)]
 pub fn is_constant(e: &Expr) -> bool
@@ -74,17 +85,15 @@ pub fn is_constant(e: &Expr) -> bool
         Expr::Int(_, _) | Expr::Str(_, _) | Expr::Name(_) | Expr::Magic(_, _) => true,
         Expr::Group(_, e) => is_constant(e.get()),
         Expr::Array(_, form, items) => is_constant_array(*form, items.as_slice()),
-        Expr::Chain(e, suffixes) => match suffixes.as_slice() {
-            [] => is_constant(e.get()),
-            [suffix] => {
-                if is_name(e.get()) {
-                    is_constant_suffix(suffix)
-                } else {
-                    false
-                }
+        Expr::Chain(e, suffixes) => {
+            if suffixes.as_slice().is_empty() {
+                is_constant(e.get())
+            } else if is_name(e.get()) {
+                is_constant_access(suffixes.as_slice())
+            } else {
+                false
             }
-            _ => false,
-        },
+        }
         Expr::Prefix(_, op, e) => {
             if is_constant_prefix(*op) {
                 is_constant(e.get())
@@ -135,11 +144,12 @@ pub fn is_constant(e: &Expr) -> bool
 
 #[cycle(constants)]
 fn is_constant_array(form: ArrayForm, items: &[Item<Expr>]) -> bool
-    ensures { result ≡ element.is_constant_array form (items_from none (map (item_with view) items.now)) }
+    ensures { result ≡ element.is_constant_array form (map (item_with view) items.now) }
 {
     match form {
         ArrayForm::List => false,
-        ArrayForm::Brackets | ArrayForm::Array => are_constant_items(items),
+        ArrayForm::Brackets => are_constant_items(items),
+        ArrayForm::Array => are_constant_items(items),
     }
 }
 

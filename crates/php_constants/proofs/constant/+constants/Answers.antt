@@ -1,5 +1,10 @@
-use Rattle.std.proofs.Common.{map, length, ◌≤◌, arith, refl, ap, sym, ◌∙◌}
+use Rattle.std.proofs.Common.{map, length, ◌≤◌, ◌&&◌, arith, refl, ap, sym, ◌∙◌}
+use Rattle.std.specs.Prelude.{◌==◌}
+use Rattle.php_ast.specs.expression.View.{view}
 use Rattle.php_ast.specs.expression.Parts.{item_with, link_with}
+use Rattle.php_legality.specs.Constants.{is_name, is_constant}
+use Rattle.php_constants.specs.Elements.{all_constant, is_constant_link, is_constant_access, is_constant_array}
+use Rattle.php_constants.proofs.ChainLemmas.{array_is_constant, chain_access, run_constant}
 use Rattle.php_constants.proofs.Weights.{heavier, total, item_weight, link_weight, weight}
 use Rattle.php_constants.proofs.constant.+constants.Goals as goal
 
@@ -12,3 +17,20 @@ pub are_constant_links-is_constant_link-requires : goal.are_constant_links-is_co
 are_constant_links-is_constant_link-requires t c =
     let h = heavier link_weight (link_with weight) c.args.links.now c.args.links.now c.loop-link.link-index c.link-item.result refl c.loop-link-test.true c.link-item.is in
     (omega (arith, h), tt)
+
+pub is_constant-returns-in-Array : goal.is_constant-returns-in-Array
+is_constant-returns-in-Array t c =
+    rw c.in-Array.is
+    (c.is_constant_array.ensures ∙ ap (λ xs. is_constant_array c.in-Array.form (map (item_with view) xs)) c.as_slice.ensures ∙ array_is_constant c.in-Array.field-0 c.in-Array.form c.in-Array.items)
+
+pub is_constant-returns-then-is_constant : goal.is_constant-returns-then-is_constant
+is_constant-returns-then-is_constant t c =
+    let first = ap (λ e. is_constant (view e)) (sym c.get-in-Run.ensures) ∙ sym c.is_constant-in-Run.ensures ∙ c.if-is_constant.true in
+    rw c.in-Run.is
+    (c.are_constant_links.ensures ∙ ap (λ xs. all_constant is_constant_link (map (link_with view) xs)) c.as_slice-then-is_constant.ensures
+    ∙ ap (λ b. b && all_constant is_constant_link (map (link_with view) c.in-Run.links)) (sym first) ∙ run_constant c.in-Run.e c.in-Run.links)
+
+pub is_constant-returns-else-is_constant : goal.is_constant-returns-else-is_constant
+is_constant-returns-else-is_constant t c =
+    let first = ap (λ e. is_constant (view e)) (sym c.get-in-Run.ensures) ∙ sym c.is_constant-in-Run.ensures ∙ c.if-is_constant.false in
+    rw c.in-Run.is (ap (λ b. b && all_constant is_constant_link (map (link_with view) c.in-Run.links)) (sym first) ∙ run_constant c.in-Run.e c.in-Run.links)
