@@ -53,8 +53,8 @@ suffix_name e (suffix.Member m) = refl
 suffix_name e (suffix.Call arguments) = refl
 
 suffixes_name : (e : Tree Note) (xs : List (Suffix (Tree Note))) → is_name e ≡ false → is_name (with_suffixes e xs) ≡ false
-suffixes_name e [] none = none
-suffixes_name e (x ∷ xs) none = suffixes_name (with_suffix e x) xs (suffix_name e x)
+suffixes_name e [] plain = plain
+suffixes_name e (x ∷ xs) plain = suffixes_name (with_suffix e x) xs (suffix_name e x)
 
 link_name : (e : Tree Note) (x : Link (Tree Note)) → is_name (with_link e x) ≡ false
 link_name e (link.Operator op r) = refl
@@ -62,8 +62,8 @@ link_name e (link.Choice a b) = refl
 link_name e (link.ShortChoice b) = refl
 
 links_name : (e : Tree Note) (xs : List (Link (Tree Note))) → is_name e ≡ false → is_name (with_links e xs) ≡ false
-links_name e [] none = none
-links_name e (x ∷ xs) none = links_name (with_link e x) xs (link_name e x)
+links_name e [] plain = plain
+links_name e (x ∷ xs) plain = links_name (with_link e x) xs (link_name e x)
 
 pub chain_name : (e : Expr) (suffixes : List (Suffix Expr)) → false ≡ (length suffixes == 0) → false ≡ is_name (view (Chain e suffixes))
 chain_name e [] some = absurd (cc)
@@ -79,8 +79,8 @@ run_name e (x ∷ xs) some =
 
 -- a node with an empty list is the node inside it
 pub empty_run : (e : Expr) (links : List (Link Expr)) → true ≡ (length links == 0) → view e ≡ view (Run e links)
-empty_run e [] none = sym (view_run e [])
-empty_run e (x ∷ xs) none = absurd (grind (arith, common_steps))
+empty_run e [] plain = sym (view_run e [])
+empty_run e (x ∷ xs) plain = absurd (grind (arith, common_steps))
 
 -- ---- suffixes
 
@@ -91,15 +91,15 @@ property_constant e (arrow.Computed k) = refl
 
 -- behind what is no name
 suffix_constant : (e : Tree Note) (x : Suffix (Tree Note)) → is_name e ≡ false → is_constant (with_suffix e x) ≡ false
-suffix_constant e suffix.Append none = refl
-suffix_constant e (suffix.Index k) none = refl
-suffix_constant e (suffix.Property n) none = property_constant e n
-suffix_constant e (suffix.Member m) none = ap (λ b. b && is_word (member_view m)) none
-suffix_constant e (suffix.Call arguments) none = refl
+suffix_constant e suffix.Append plain = refl
+suffix_constant e (suffix.Index k) plain = refl
+suffix_constant e (suffix.Property n) plain = property_constant e n
+suffix_constant e (suffix.Member m) plain = ap (λ b. b && is_word (member_view m)) plain
+suffix_constant e (suffix.Call arguments) plain = refl
 
 suffixes_constant : (e : Tree Note) (x : Suffix (Tree Note)) (xs : List (Suffix (Tree Note))) → is_name e ≡ false → is_constant (with_suffixes (with_suffix e x) xs) ≡ false
-suffixes_constant e x [] none = suffix_constant e x none
-suffixes_constant e x (y ∷ xs) none = suffixes_constant (with_suffix e x) y xs (suffix_name e x)
+suffixes_constant e x [] plain = suffix_constant e x plain
+suffixes_constant e x (y ∷ xs) plain = suffixes_constant (with_suffix e x) y xs (suffix_name e x)
 
 is_word_of : (keyword : Option Keyword) (w : Word) → is_word (word_of keyword w) ≡ true
 is_word_of None w = refl

@@ -34,3 +34,17 @@ pub is_constant-returns-else-is_constant : goal.is_constant-returns-else-is_cons
 is_constant-returns-else-is_constant t c =
     let first = ap (λ e. is_constant (view e)) (sym c.get-in-Run.ensures) ∙ sym c.is_constant-in-Run.ensures ∙ c.if-is_constant.false in
     rw c.in-Run.is (ap (λ b. b && all_constant is_constant_link (map (link_with view) c.in-Run.links)) (sym first) ∙ run_constant c.in-Run.e c.in-Run.links)
+
+pub is_constant-returns-then-is_name : goal.is_constant-returns-then-is_name
+is_constant-returns-then-is_name t c =
+    let some = sym c.if-is_empty.false ∙ c.is_empty.ensures ∙ ap (λ xs. length xs == 0) c.as_slice-in-Chain.ensures in
+    let named = ap (λ e. is_name (view e)) (sym c.get-else-is_empty.ensures) ∙ sym c.is_name.ensures ∙ c.if-is_name.true in
+    rw c.in-Chain.is
+    (c.is_constant_access.ensures ∙ ap is_constant_access c.as_slice-then-is_name.ensures ∙ ap (λ b. b && is_constant_access c.in-Chain.suffixes) (sym named)
+    ∙ chain_access c.in-Chain.e c.in-Chain.suffixes some)
+
+pub is_constant-returns-else-is_name : goal.is_constant-returns-else-is_name
+is_constant-returns-else-is_name t c =
+    let some = sym c.if-is_empty.false ∙ c.is_empty.ensures ∙ ap (λ xs. length xs == 0) c.as_slice-in-Chain.ensures in
+    let named = ap (λ e. is_name (view e)) (sym c.get-else-is_empty.ensures) ∙ sym c.is_name.ensures ∙ c.if-is_name.false in
+    rw c.in-Chain.is (ap (λ b. b && is_constant_access c.in-Chain.suffixes) (sym named) ∙ chain_access c.in-Chain.e c.in-Chain.suffixes some)
