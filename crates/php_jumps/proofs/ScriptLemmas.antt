@@ -7,10 +7,11 @@ use Rattle.php_ast.specs.statement.Tree.{Statements}
 use Rattle.php_ast.specs.declaration.Tree.{Method, Member, uses, uses_by, class_constants, method, properties, Item, of_statement, of_function, of_class, of_interface, of_trait}
 use Rattle.php_legality.specs.declared.kind.Kind.TheVariants as kind
 use Rattle.php_legality.specs.declared.fault.Fault.{Fault}
+use Rattle.php_legality.specs.declared.scope.Scope.{Scope}
 use Rattle.php_legality.specs.Lists.{elements, where_some}
 use Rattle.php_legality.specs.First.{fault_at, first_from, IsFirst}
 use Rattle.php_legality.specs.Statements.{Inside, inside_list, all_inside}
-use Rattle.php_legality.specs.Declarations.{Scope, Site, sites_in, sites, item_sites, method_sites, methods_of, members_of, body_scope, outermost}
+use Rattle.php_legality.specs.Declarations.{Site, sites_in, sites, item_sites, method_sites, methods_of, members_of, body_scope, outermost}
 use Rattle.php_legality.specs.Rows.{at_break, is_bad_level, leaves_finally, loops_in_finally}
 use Rattle.php_legality.specs.Legality.{faults_of_kinds, places_of}
 use Rattle.php_legality.proofs.FirstLemmas.{first_from_joined, first_is_found, first_of_same}

@@ -1,6 +1,5 @@
 -- Small scripts, each with all of its faults by kind and token, by computing; beside what is refused stands its nearest legal neighbour.
-use Rattle.std.proofs.Common.{◌≡◌, ℕ, ℤ, pos, Bool, true, false, Option, Some, None, List, [], ◌∷◌, ◌++◌, map, refl, codes}
-use Rattle.php_token.specs.declared.kind.Keyword.TheVariants as word
+use Rattle.std.proofs.Common.{◌≡◌, ℕ, pos, Bool, true, false, Option, Some, None, List, [], ◌∷◌, ◌++◌, map, refl, codes}
 use Rattle.php_ast.specs.declared.operator.ArrayForm.TheVariants as form
 use Rattle.php_ast.specs.declared.operator.Prefix.TheVariants as prefix_form
 use Rattle.php_ast.specs.declared.operator.Count.TheVariants as count_form
@@ -15,8 +14,8 @@ use Rattle.php_ast.specs.expression.Tree.{Tree, Items, Lead, leaf, enclosed, lis
 use Rattle.php_ast.specs.expression.Tree as tree
 use Rattle.php_ast.specs.expression.View.{Note}
 use Rattle.php_ast.specs.expression.Placed.{Notes}
-use Rattle.php_ast.specs.statement.Tree.{Sequence, empty, then_also, Name, Variable, Constant, Target, Statement, block, blank, expression, statics, unset, constants, jump, while, foreach, switch, try_catch, try_finally, declares, returning, breaking, continuing, Statements, no_statement, and_statement, single, Cases, no_case, and_case, no_catch, and_catch}
-use Rattle.php_ast.specs.declaration.Tree.{Base, of_name, Type_of, Param, Signature, Modifier, Method, Rule, renames, Member, uses_by, class_constants, method, properties, Item, of_statement, of_function, of_class, of_interface, of_trait, Script}
+use Rattle.php_ast.specs.statement.Tree.{Sequence, empty, then_also, Name, Target, Statement, block, blank, expression, statics, unset, constants, jump, while, foreach, switch, try_catch, try_finally, declares, returning, breaking, continuing, Statements, no_statement, and_statement, single, Cases, no_case, and_case, no_catch, and_catch}
+use Rattle.php_ast.specs.declaration.Tree.{of_name, Param, Signature, Modifier, renames, Member, uses_by, class_constants, method, properties, Item, of_statement, of_function, of_class, of_interface}
 use Rattle.php_ast.specs.declaration.Placed.{noted_script}
 use Rattle.php_legality.specs.declared.kind.Kind.{Kind}
 use Rattle.php_legality.specs.declared.kind.Kind.TheVariants as kind

@@ -1,10 +1,10 @@
 -- The first of several faults: how going over them finds it.
-use Rattle.std.proofs.Common.{◌≡◌, ℕ, ◌<◌, ◌≤◌, ◌⊎◌, Bool, true, false, ◌&&◌, ◌||◌, nat_lt, nat_eq, cond, Option, Some, None, List, [], ◌∷◌, ◌++◌, map, flat_map, refl, sym, ◌∙◌, ap, arith, subst}
+use Rattle.std.proofs.Common.{◌≡◌, Bool, true, false, cond, Option, Some, None, List, [], ◌∷◌, ◌++◌, refl, ◌∙◌, arith, subst}
 use mathlib.Core.Logic.{inl, inr}
 use Rattle.std.proofs.lemmas.Grind.{common_steps}
 use Rattle.php_legality.specs.declared.fault.Fault.{Fault}
 use Rattle.php_legality.specs.Lists.{Has}
-use Rattle.php_legality.specs.First.{rank, IsNoLater, IsFirst, is_before, sooner, first_from}
+use Rattle.php_legality.specs.First.{IsNoLater, IsFirst, is_before, sooner, first_from}
 
 pub first_from_joined : (met : Option Fault) (xs ys : List Fault) → first_from met (xs ++ ys) ≡ first_from (first_from met xs) ys
 first_from_joined met [] ys = refl

@@ -58,12 +58,12 @@ abbrev mutual
   is_constant _ = false
 
   -- a missing item is a matter of lists
-  are_constant : {S : Type 0} → Items S → Bool
+  pub are_constant : {S : Type 0} → Items S → Bool
   are_constant none = true
   are_constant (and items lead e) = are_constant items && is_constant_lead lead && is_constant e
   are_constant (skip items) = are_constant items
 
-  is_constant_lead : {S : Type 0} → Lead S → Bool
+  pub is_constant_lead : {S : Type 0} → Lead S → Bool
   is_constant_lead plain = true
   is_constant_lead (keyed k) = is_constant k
   is_constant_lead _ = false

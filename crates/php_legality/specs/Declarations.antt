@@ -4,24 +4,17 @@ use Rattle.std.specs.Str.{str_eq_ignore_ascii_case}
 use Rattle.php_ast.specs.expression.Tree.{Tree}
 use Rattle.php_ast.specs.expression.Tree as tree
 use Rattle.php_ast.specs.expression.View.{Note}
-use Rattle.php_ast.specs.statement.Tree.{Sequence, Name, Variable, Statement, Statements, no_statement, and_statement}
-use Rattle.php_ast.specs.declaration.Tree.{Base, of_name, of_array, of_callable, Type_of, Param, Signature, Function, Modifier, Method, Rule, Member, uses, uses_by, class_constants, method, properties, Class, Interface, Trait, Item, of_statement, of_function, of_class, of_interface, of_trait, Script}
+use Rattle.php_ast.specs.statement.Tree.{Name, Variable, Statement}
+use Rattle.php_ast.specs.declaration.Tree.{Base, of_name, of_array, of_callable, Type_of, Signature, Method, Member, class_constants, method, properties, Item, of_statement, of_function, of_class, of_interface, of_trait}
+pub use Rattle.php_legality.specs.declared.scope.Scope.{Scope}
 use Rattle.php_legality.specs.Lists.{elements, where_some}
-use Rattle.php_legality.specs.Expressions.{valued, Used, all_used}
+use Rattle.php_legality.specs.Expressions.{Used, all_used}
 use Rattle.php_legality.specs.Statements.{Inside, Around, inside_list, all_inside, own, own_constants, first_values, as_values}
-
--- what a body or a signature belongs to
-pub record Scope : Type 0 where
-  -- a class, an interface or a trait
-  pub in_class : Bool
-  pub in_function : Bool
-  -- a function that returns nothing
-  pub is_void : Bool
 
 abbrev pub outermost : Scope
 outermost = record { in_class = false; in_function = false; is_void = false }
 
-abbrev class_scope : Scope
+abbrev pub class_scope : Scope
 class_scope = record { in_class = true; in_function = false; is_void = false }
 
 -- ---- classes, interfaces and traits alike
@@ -101,6 +94,9 @@ pub record Signed (S : Type 0) : Type 0 where
   pub in_class : Bool
   pub signature : Signature S
 
+abbrev pub signature_scope : Bool → Scope
+signature_scope in_class = record { in_class = in_class; in_function = false; is_void = false }
+
 abbrev pub item_signatures : {S : Type 0} → Item S → List (Signed S)
 item_signatures (of_function g) = record { in_class = false; signature = g.signature } ∷ []
 item_signatures item =
@@ -123,7 +119,7 @@ pub record Placed (S : Type 0) : Type 0 where
   pub scope : Scope
   pub expression : Used S
 
-abbrev placed_in : {S : Type 0} → Scope → List (Used S) → List (Placed S)
+abbrev pub placed_in : {S : Type 0} → Scope → List (Used S) → List (Placed S)
 placed_in scope es = map (λ x. record { scope = scope; expression = x }) (flat_map all_used es)
 
 -- the values of properties and constants
@@ -139,7 +135,7 @@ all_member_values items = flat_map (λ those. flat_map member_values those.membe
 abbrev pub expressions : {S : Type 0} → List (Item S) → List (Placed S)
 expressions items =
     flat_map (λ site. placed_in site.scope (own site.statement)) (sites items)
-    ++ flat_map (λ s. placed_in (record { in_class = s.in_class; in_function = false; is_void = false }) (as_values (defaults_of s.signature))) (signatures items)
+    ++ flat_map (λ s. placed_in (signature_scope s.in_class) (as_values (defaults_of s.signature))) (signatures items)
     ++ placed_in class_scope (as_values (all_member_values items))
 
 -- each expression of a script that must be constant

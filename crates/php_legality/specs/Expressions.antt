@@ -1,10 +1,8 @@
 -- What is done with each expression: of an expression and of those inside it, which are values, which are written, and how.
-use Rattle.std.specs.Prelude.{Bool, List, [], ◌∷◌, ◌++◌}
-use Rattle.php_ast.specs.declared.operator.ArrayForm.{ArrayForm}
+use Rattle.std.specs.Prelude.{List, [], ◌∷◌, ◌++◌}
 use Rattle.php_ast.specs.declared.operator.ArrayForm.TheVariants as form
 use Rattle.php_ast.specs.declared.operator.Prefix.{Prefix}
 use Rattle.php_ast.specs.declared.operator.Prefix.TheVariants as prefix_form
-use Rattle.php_ast.specs.declared.operator.Assign.{Assign}
 use Rattle.php_ast.specs.declared.operator.Assign.TheVariants as assign_form
 use Rattle.php_ast.specs.expression.Tree.{Tree, leaf, template, enclosed, listed, exit, exit_empty, static_member, append, index, selected, computed, call, new, new_with, prefix, count, binary, instance_of, instance_of_static, choice, short_choice, assign, yield_nothing, yield_value, yield_pair}
 use Rattle.php_ast.specs.expression.Tree.{Items, none, and, skip, Lead, plain, reference, spread, keyed, keyed_reference, Pieces, no_piece, bytes, value, Class, class_name, class_static, class_found, Steps, from, step_property, step_index, Listing, Setting}

@@ -1,7 +1,6 @@
 -- Faults at tokens, and the first of several.
 use Rattle.std.specs.Prelude.{◌≡◌, ℕ, ◌<◌, ◌≤◌, ◌⊎◌, Bool, ◌&&◌, ◌||◌, nat_lt, nat_eq, cond, Option, Some, None, List, [], ◌∷◌}
 use Rattle.php_ast.specs.expression.View.{Note}
-use Rattle.php_ast.specs.declared.spot.Spot.{Spot}
 use Rattle.php_legality.specs.declared.kind.Kind.{Kind}
 use Rattle.php_legality.specs.declared.kind.Kind.TheVariants as kind
 use Rattle.php_legality.specs.declared.fault.Fault.{Fault}

@@ -1,5 +1,5 @@
 -- Legal scripts, and the first fault of one that isn't.
-use Rattle.std.specs.Prelude.{◌≡◌, Option, Some, List, [], ◌∷◌, map, flat_map}
+use Rattle.std.specs.Prelude.{Option, Some, List, [], ◌∷◌, map, flat_map}
 use Rattle.php_ast.specs.expression.View.{Note}
 use Rattle.php_ast.specs.declaration.Tree.{Item, Script}
 use Rattle.php_legality.specs.declared.kind.Kind.{Kind}

@@ -1,5 +1,5 @@
 -- Words on sequences and lists of names.
-use Rattle.std.specs.Prelude.{◌≡◌, ◌⊎◌, ℕ, Bool, false, ◌||◌, cond, Option, Some, None, List, [], ◌∷◌, ◌++◌}
+use Rattle.std.specs.Prelude.{◌≡◌, ◌⊎◌, Bool, false, ◌||◌, cond, Option, Some, None, List, [], ◌∷◌, ◌++◌}
 use Rattle.php_ast.specs.statement.Tree.{Sequence, empty, then_also}
 
 -- the elements of a sequence, the first one first

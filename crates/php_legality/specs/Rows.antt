@@ -1,23 +1,21 @@
 -- The kinds of faults, one after the other: of each, the notes of the tokens at which it stands.
-use Rattle.std.specs.Prelude.{ℕ, zero, suc, ◌<◌, ◌==◌, nat_lt, ℤ, pos, negsuc, Bool, true, false, ◌&&◌, ◌||◌, not, cond, Option, Some, None, List, [], ◌∷◌, ◌++◌, map, flat_map, filter, take, drop, codes, bytes_eq}
+use Rattle.std.specs.Prelude.{ℕ, suc, nat_lt, ℤ, pos, negsuc, Bool, true, false, ◌&&◌, ◌||◌, not, cond, Option, Some, None, List, [], ◌∷◌, ◌++◌, map, flat_map, filter, take, drop, codes, bytes_eq}
 use Rattle.std.specs.Str.{str_eq_ignore_ascii_case}
 use Rattle.php_ast.specs.declared.operator.ArrayForm.TheVariants as form
 use Rattle.php_ast.specs.declared.operator.Prefix.TheVariants as prefix_form
-use Rattle.php_ast.specs.declared.declaration.ClassModifier.{ClassModifier}
-use Rattle.php_ast.specs.declared.declaration.ClassModifier.TheVariants as class_word
 use Rattle.php_ast.specs.declared.declaration.ModifierWord.{ModifierWord}
 use Rattle.php_ast.specs.declared.declaration.ModifierWord.TheVariants as modifier
 use Rattle.php_ast.specs.expression.Tree.{Tree, leaf, listed, static_member, selected, new, new_with, prefix, instance_of, instance_of_static, yield_nothing, yield_value, yield_pair, Items, none, and, skip, Lead, plain, reference, spread, keyed, keyed_reference, Class}
 use Rattle.php_ast.specs.expression.Tree as tree
 use Rattle.php_ast.specs.expression.View.{Note}
-use Rattle.php_ast.specs.statement.Tree.{Name, Statement, jump, switch, declares, returning, breaking, continuing, Jump, Cases, no_case, and_case}
-use Rattle.php_ast.specs.declaration.Tree.{Base, of_name, of_array, of_callable, Type_of, Param, Signature, Modifier, ClassWord, Method, Rule, renames, prefers, Member, uses, uses_by, class_constants, method, properties, Item, of_statement, of_function, of_class, of_interface, of_trait}
-use Rattle.php_legality.specs.Lists.{elements, where_some, where_true, is_any, repeated, different}
-use Rattle.php_legality.specs.Places.{first_note, is_place, is_this, is_written, is_static, is_call, is_list}
+use Rattle.php_ast.specs.statement.Tree.{Name, Statement, jump, switch, declares, returning, breaking, continuing, Cases, no_case, and_case}
+use Rattle.php_ast.specs.declaration.Tree.{Base, of_name, of_array, of_callable, Param, Signature, Modifier, ClassWord, Method, Rule, renames, Member, uses_by, class_constants, method, properties, Item, of_statement, of_function, of_class, of_interface, of_trait}
+use Rattle.php_legality.specs.Lists.{elements, where_true, is_any, repeated, different}
+use Rattle.php_legality.specs.Places.{first_note, is_place, is_written, is_static, is_call, is_list}
 use Rattle.php_legality.specs.Constants.{is_constant}
-use Rattle.php_legality.specs.Expressions.{Use, valued, assigned, changed, linked, removed, asked, Used}
+use Rattle.php_legality.specs.Expressions.{Use, valued, assigned, changed, linked, removed, asked}
 use Rattle.php_legality.specs.Statements.{Around, loop_or_switch, finally_block, caught}
-use Rattle.php_legality.specs.Declarations.{Scope, Owner, of_a_class, of_an_interface, Members, all_members, methods_of, properties_of, constants_of, Site, sites, Signed, signatures, types_of, Placed, expressions, constant_expressions, member_note, member_name}
+use Rattle.php_legality.specs.Declarations.{Owner, of_a_class, of_an_interface, Members, all_members, methods_of, properties_of, constants_of, sites, signatures, types_of, expressions, constant_expressions, member_note, member_name}
 use Rattle.php_legality.specs.NameTokens.{NameToken, is_same_token, name_tokens}
 use Rattle.php_legality.specs.Taken.{is_one_of, library_functions, prelude_functions, built_in_classes, no_class_names, inner_class_names}
 

@@ -1,10 +1,10 @@
 -- The statements of a body, those inside others too, with what stands around each, and their own expressions.
-use Rattle.std.specs.Prelude.{ℕ, suc, ◌<◌, Bool, true, false, cond, Option, Some, None, List, [], ◌∷◌, ◌++◌, map, flat_map}
+use Rattle.std.specs.Prelude.{cond, List, [], ◌∷◌, ◌++◌, map, flat_map}
 use Rattle.php_ast.specs.expression.Tree.{Tree, Items, none, and, skip}
 use Rattle.php_ast.specs.statement.Tree.{Sequence, Name, Variable, Constant, Target, Statement, block, blank, inline, expression, echo, globals, statics, unset, constants, jump, throw, if_only, if_else, if_lists, if_else_lists, while, do_while, for, foreach, switch, try_catch, try_finally, declares}
 use Rattle.php_ast.specs.statement.Tree.{Statements, no_statement, and_statement, ElseIfs, no_elseif, and_elseif, ElseIfLists, no_elseif_list, and_elseif_list, Body, single, list_behind_colon, Cases, no_case, and_case, Catches, no_catch, and_catch}
 use Rattle.php_legality.specs.Lists.{elements, where_some}
-use Rattle.php_legality.specs.Expressions.{Use, valued, assigned, changed, removed, Used, used, use_behind}
+use Rattle.php_legality.specs.Expressions.{Use, valued, assigned, changed, removed, Used, used}
 
 -- what a `break` may leave, and what it may not
 pub data Around : Type 0 where

@@ -3,6 +3,8 @@
 
 mod fault;
 mod kind;
+mod scope;
 
 pub use fault::{Fault, sooner};
 pub use kind::Kind;
+pub use scope::Scope;

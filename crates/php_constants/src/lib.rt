@@ -1,0 +1,6 @@
+// Constant expressions.
+#![tactic(auto)]
+
+mod constant;
+
+pub use constant::is_constant;
