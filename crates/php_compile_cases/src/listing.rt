@@ -2,7 +2,7 @@
 
 use php_actions::{
     Action, BaseForm, CallAction, JumpAction, NameAction, OperatorAction, OutputAction,
-    PlaceAction, PlaceForm, StackAction,
+    PlaceAction, PlaceForm, Relation, StackAction,
 };
 use php_code::Instr;
 use php_value::{Scalar, Text};
@@ -88,9 +88,27 @@ fn form_text(alloc: Global, word: &str, form: &PlaceForm) -> Result<String, Allo
     }
 }
 
+fn relation_text(relation: Relation) -> &'static str {
+    match relation {
+        Relation::Equal => "==",
+        Relation::NotEqual => "!=",
+        Relation::Less => "<",
+        Relation::LessEqual => "<=",
+        Relation::Greater => ">",
+        Relation::GreaterEqual => ">=",
+        Relation::Compared => "<=>",
+    }
+}
+
 fn operator_text(alloc: Global, action: &OperatorAction) -> Result<String, AllocError> {
     match action {
         OperatorAction::Operate(op) => format!(in alloc; "{op:?}"),
+        OperatorAction::Compare(relation) => {
+            let asked = relation_text(*relation);
+            format!(in alloc; "compare {asked}")
+        }
+        OperatorAction::Identical { negated } => format!(in alloc; "identical {negated}"),
+        OperatorAction::TestCase => format!(in alloc; "test case"),
         OperatorAction::ExclusiveOr => format!(in alloc; "xor"),
         OperatorAction::ToBool => format!(in alloc; "to bool"),
         OperatorAction::Not => format!(in alloc; "not"),

@@ -18,8 +18,11 @@ use Rattle.php_flat.specs.Statements.{is_flat_optional, is_flat_variable, is_fla
 abbrev pub is_flat_param : rust_param.Param → Bool
 is_flat_param p = is_flat_optional p.default
 
+abbrev pub are_flat_params : List rust_param.Param → Bool
+are_flat_params params = list_all is_flat_param params
+
 abbrev pub is_flat_signature : rust_signature.Signature → Bool
-is_flat_signature s = list_all is_flat_param s.params
+is_flat_signature s = are_flat_params s.params
 
 abbrev pub is_flat_function : FunctionDecl → Bool
 is_flat_function f = is_flat_signature f.signature && are_flat_statements f.body

@@ -1,5 +1,8 @@
 -- The result, the parameters one after the other, and the whole signature.
 use Rattle.std.proofs.Common.{◌≡◌, ℕ, suc, ◌+◌, true, Option, Some, List, [], ◌∷◌, ◌++◌, map, refl, sym, ◌∙◌, ap, arith, Bool, false, None}
+use Rattle.std.specs.Prelude.{◌&&◌}
+use Rattle.std.specs.List.{list_all}
+use Rattle.php_build.proofs.Flats.{both, first_of, second_of}
 use Rattle.php_token.specs.Token.{Token}
 use Rattle.php_token.specs.declared.kind.Punct.TheVariants as mark
 use Rattle.php_ast.specs.Symbol.{Symbol, punct}
@@ -24,6 +27,15 @@ use Rattle.php_parse_signature.proofs.Heads.{result_read}
 use Rattle.php_parse_signature.proofs.Moves.{go, sticks}
 use Rattle.php_parse_signature.proofs.Tokens.{paren_shown, colon_shown}
 use Rattle.php_grammar.specs.declaration.Laws.{ResultEnds}
+
+-- ---- a list with one more
+
+all_more : {A : Type 0} (p : A → Bool) (xs : List A) (x : A) → list_all p xs ≡ true → p x ≡ true → list_all p (xs ++ x ∷ []) ≡ true
+all_more p [] x all one = ap (λ b. b && true) one
+all_more p (y ∷ xs) x all one = both (first_of (p y) (list_all p xs) all) (all_more p xs x (second_of (p y) (list_all p xs) all) one)
+
+pub all_with : {A : Type 0} (p : A → Bool) (xs new : List A) (x : A) → new ≡ xs ++ x ∷ [] → list_all p xs ≡ true → p x ≡ true → list_all p new ≡ true
+all_with p xs new x grown all one = ap (list_all p) grown ∙ all_more p xs x all one
 
 -- ---- the result
 

@@ -42,7 +42,7 @@ use Rattle.php_parse_signature.specs.declared.read.ReadParams.{ReadParams}
 use Rattle.php_parse_signature.specs.declared.read.ReadSignature.{ReadSignature}
 use Rattle.php_parse_signature.specs.declared.types.TypeKind.{TypeKind}
 use Rattle.php_parse_signature.specs.declared.types.TypeKind.TheVariants as type_kind
-use Rattle.php_parse_signature.specs.Flat.{are_flat_params}
+use Rattle.php_flat.specs.Declarations.{are_flat_params}
 use Rattle.php_parse_signature.specs.PartView.{base_of, head_role}
 use Rattle.php_parse_signature.specs.Walk.{Leads, Halts}
 

@@ -2,7 +2,7 @@
 
 ghost use Rattle.std.specs.Prelude.{◌≡◌, ◌≤◌, true, length, IfOk, IfErr};
 ghost use Rattle.php_parse_signature.specs.Exact as exact;
-ghost use Rattle.php_parse_signature.specs.Flat.{is_flat_signature};
+ghost use Rattle.php_flat.specs.Declarations.{is_flat_signature};
 
 use crate::signature::read_signature;
 use php_ast::Signature;

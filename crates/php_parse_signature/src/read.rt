@@ -1,7 +1,8 @@
 // What the parts of the parser give.
 
 ghost use Rattle.std.specs.Prelude.{◌≡◌, true};
-ghost use Rattle.php_parse_signature.specs.Flat.{are_flat_params, is_flat_default, is_flat_param, is_flat_signature};
+ghost use Rattle.php_flat.specs.Declarations.{are_flat_params, is_flat_param, is_flat_signature};
+ghost use Rattle.php_flat.specs.Statements.{is_flat_optional};
 
 use php_ast::{Expr, Name, Param, Signature, Type};
 use sqlite_items::Items;
@@ -42,7 +43,7 @@ pub(crate) struct Front {
 pub(crate) struct Valued {
     pub(crate) default: Option<Expr>,
     pub(crate) next: usize,
-    ghost flat: { is_flat_default default ≡ true },
+    ghost flat: { is_flat_optional default ≡ true },
 }
 
 /// A parameter, and the place behind it.

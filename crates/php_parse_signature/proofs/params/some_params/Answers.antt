@@ -1,14 +1,13 @@
-use Rattle.std.proofs.Common.{ap, arith, refl, Bool}
+use Rattle.std.proofs.Common.{ap, arith, refl}
 use Rattle.std.proofs.lemmas.Result.{err_from_is_err_and}
 use Rattle.php_ast.specs.statement.Tree.{empty, then_also}
 use Rattle.php_ast.specs.statement.View.{sequence}
 use Rattle.php_ast.specs.declaration.View.{param_view}
-use Rattle.php_build.proofs.Flats.{all_push}
 use Rattle.php_grammar.specs.declaration.SignatureMachine.{due_param}
 use Rattle.php_parse_signature.specs.Answer.{behind, valued}
-use Rattle.php_parse_signature.specs.Flat.{are_flat_params, is_flat_param}
+use Rattle.php_flat.specs.Declarations.{are_flat_params, is_flat_param}
 use Rattle.php_parse_signature.proofs.Moves.{leads, leads_halts, later}
-use Rattle.php_parse_signature.proofs.Wholes.{params_more}
+use Rattle.php_parse_signature.proofs.Wholes.{params_more, all_with}
 use Rattle.php_parse_signature.proofs.Lists.{comma_leads, end_leads, neither_halts}
 use Rattle.php_parse_signature.proofs.params.some_params.Goals as goal
 
@@ -62,7 +61,7 @@ loop-params-preserved c =
       params = then_also v.params (valued i.front i.value);
       shown = params_more c.args.reader.now.tokens.now c.args.at c.loop-params.next v.params (valued i.front i.value) c.loop-params.params _ _ c.in_ok-push.ensures.ok v.shown v.sized i.shown;
       sized = omega (arith, v.sized, i.sized);
-      flat = all_push (λ (flat : Bool). flat) is_flat_param c.loop-params.params _ _ c.in_ok-push.ensures.ok v.flat c.in_ok-read.read.flat;
+      flat = all_with is_flat_param c.loop-params.params _ _ c.in_ok-push.ensures.ok v.flat c.in_ok-read.read.flat;
       reads = leads (due_param v.params) v.reads (leads (behind v.params i.front i.value) (i.reads v.params)
           (comma_leads c.args.reader.now.tokens.now c.in_ok-read.read.next c.args.reader.now.room v.params i.front i.value c.requires.deep e));
       no_end = λ h. absurd (cc);
