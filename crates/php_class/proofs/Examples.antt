@@ -1,6 +1,7 @@
 -- Small scripts, what their tables hold and answer, and what is wrong with their classes. Each stands without notes, and its notes
 -- are those of its spelling, all of line 1.
-use Rattle.std.proofs.Common.{◌≡◌, ℕ, zero, suc, Bool, true, false, Option, Some, None, List, [], ◌∷◌, map, length, refl, codes, ltb-true}
+use Rattle.std.proofs.Common.{◌≡◌, ℕ, zero, suc, Bool, true, false, Option, Some, None, List, [], ◌∷◌, map, length, refl, codes, ltb-true, inr}
+use Rattle.php_ast.specs.declared.spot.Spot.{Spot}
 use Rattle.php_ast.specs.declared.declaration.ClassModifier.{ClassModifier}
 use Rattle.php_ast.specs.declared.declaration.ClassModifier.TheVariants as class_word
 use Rattle.php_ast.specs.declared.declaration.ModifierWord.{ModifierWord}
@@ -17,7 +18,7 @@ use Rattle.php_trait.specs.Faults.{In, here, later}
 use Rattle.php_class.specs.Rows.{Row, MethodRow, table, built_in}
 use Rattle.php_class.specs.Lookups as look
 use Rattle.php_class.specs.Lookups.{number_of, row_at, parent, is_a, ancestry, yes, hidden, no}
-use Rattle.php_class.specs.Faults.{IsNoParent, no_parent, no_interface, Leads, is_it, goes_on, IsCycle, IsFinalBroken, final_class, final_method, Against, of_parents, of_interface, Clashes, narrower, otherwise_static, IsUnfit, more_required, fewer_params, other_marks, other_reference, other_result, IsBadOverride, signature, built_in_alone, IsInterfaceMissing, IsAbstractLeft, required, result_fits, agree, built_in_has}
+use Rattle.php_class.specs.Faults.{IsNoParent, no_parent, no_interface, Leads, is_it, goes_on, IsCycle, IsFinalBroken, final_class, final_method, Against, of_parents, of_interface, Clashes, narrower, otherwise_static, IsUnfit, more_required, fewer_params, other_marks, other_reference, other_result, IsBadOverride, signature, inherited, built_in_alone, IsInterfaceMissing, IsAbstractLeft, required, result_fits, agree, built_in_has}
 
 -- ---- small trees
 
@@ -142,6 +143,9 @@ none_of_the_name = refl
 
 -- ---- faults
 
+abbrev on : ℕ → Spot
+on place = record { place = place; line = 1 }
+
 -- the row of a number
 abbrev OfRow : List Row → ℕ → (Row → Type 0) → Type 0
 OfRow rows number P = given (row_at rows number)
@@ -154,7 +158,7 @@ OfRow rows number P = given (row_at rows number)
 lonely : List Row
 lonely = rows_of (class [] (codes "A") (Some (n (codes "B"))) [] [] ∷ [])
 
-lonely_fault : OfRow lonely 9 (λ r. IsNoParent lonely r 3)
+lonely_fault : OfRow lonely 9 (λ r. IsNoParent lonely r (on 3))
 unfolding lonely
 lonely_fault = no_parent _ (here _) refl refl
 
@@ -162,7 +166,7 @@ lonely_fault = no_parent _ (here _) refl refl
 wrong_kind : List Row
 wrong_kind = rows_of (class [] (codes "A") (Some (n (codes "Throwable"))) [] [] ∷ [])
 
-wrong_kind_fault : OfRow wrong_kind 9 (λ r. IsNoParent wrong_kind r 3)
+wrong_kind_fault : OfRow wrong_kind 9 (λ r. IsNoParent wrong_kind r (on 3))
 unfolding wrong_kind
 wrong_kind_fault = no_parent _ (here _) refl refl
 
@@ -170,7 +174,7 @@ wrong_kind_fault = no_parent _ (here _) refl refl
 circle : List Row
 circle = rows_of (class [] (codes "A") (Some (n (codes "B"))) [] [] ∷ class [] (codes "B") (Some (n (codes "A"))) [] [] ∷ [])
 
-circle_fault : OfRow circle 9 (λ r. IsCycle circle r 3)
+circle_fault : OfRow circle 9 (λ r. IsCycle circle r (on 3))
 unfolding circle
 circle_fault = record {
   before = [];
@@ -186,7 +190,7 @@ circle_fault = record {
 final_parent : List Row
 final_parent = rows_of (class [] (codes "A") (Some (n (codes "Generator"))) [] [] ∷ [])
 
-final_parent_fault : OfRow final_parent 9 (λ r. IsFinalBroken final_parent 9 r 3)
+final_parent_fault : OfRow final_parent 9 (λ r. IsFinalBroken final_parent 9 r (on 3))
 unfolding final_parent
 final_parent_fault = final_class _ 8 _ (here _) refl refl refl refl
 
@@ -194,16 +198,16 @@ final_parent_fault = final_class _ 8 _ (here _) refl refl refl refl
 final_again : List Row
 final_again = rows_of (class [] (codes "A") (Some (n (codes "Error"))) [] (f [] (codes "GETLINE") [] None block ∷ []) ∷ [])
 
-final_again_fault : OfRow final_again 9 (λ r. IsFinalBroken final_again 9 r 6)
+final_again_fault : OfRow final_again 9 (λ r. IsFinalBroken final_again 9 r (on 6))
 unfolding final_again
 final_again_fault =
-    final_method _ 3 _ _ (here _) (later _ _ (here _)) (λ is. cc) refl (later _ _ (later _ _ (later _ _ (later _ _ (here _))))) refl refl
+    final_method _ 3 _ _ (here _) (here _) refl (later _ _ (later _ _ (later _ _ (later _ _ (here _))))) refl refl
 
 -- `interface I extends Traversable{}`
 traversable_alone : List Row
 traversable_alone = rows_of (interface (codes "I") (n (codes "Traversable") ∷ []) [] ∷ [])
 
-traversable_alone_fault : OfRow traversable_alone 9 (λ r. IsBadOverride traversable_alone 9 r 3)
+traversable_alone_fault : OfRow traversable_alone 9 (λ r. IsBadOverride traversable_alone 9 r (on 3))
 unfolding traversable_alone
 traversable_alone_fault = built_in_alone _ 0 (here _) refl refl refl refl
 
@@ -220,7 +224,7 @@ clashing : List Row
 clashing = rows_of (class [] (codes "P") None [] (f (word.Public ∷ []) (codes "f") [] None block ∷ [])
     ∷ class [] (codes "C") (Some (n (codes "P"))) [] (f (word.Protected ∷ word.Static ∷ []) (codes "F") [] None block ∷ []) ∷ [])
 
-clashing_narrower : OfRow clashing 10 (λ r. IsBadOverride clashing 10 r 19)
+clashing_narrower : OfRow clashing 10 (λ r. IsBadOverride clashing 10 r (on 19))
 unfolding clashing
 clashing_narrower = Rattle.php_class.specs.Faults.method _ _ (here _) (of_parents _ refl) refl (narrower (record { narrower = ltb-true _ _ refl })) refl
 
@@ -230,7 +234,7 @@ third = rows_of (class (class_word.Abstract ∷ []) (codes "A") None [] (f (word
     ∷ class [] (codes "B") (Some (n (codes "A"))) [] (f [] (codes "f") (param false ∷ []) None block ∷ [])
     ∷ class [] (codes "C") (Some (n (codes "B"))) [] (f [] (codes "f") [] None block ∷ []) ∷ [])
 
-third_fault : OfRow third 11 (λ r. IsBadOverride third 11 r 31)
+third_fault : OfRow third 11 (λ r. IsBadOverride third 11 r (on 31))
 unfolding third
 third_fault = signature _ 9 _ _ (here _) (later _ _ (here _)) refl (here _) refl refl refl (fewer_params (ltb-true _ _ refl)) refl
 
@@ -245,7 +249,7 @@ taken = refl
 missing : List Row
 missing = rows_of (interface (codes "I") [] (f [] (codes "f") [] None None ∷ []) ∷ class [] (codes "C") None (n (codes "I") ∷ []) [] ∷ [])
 
-missing_fault : OfRow missing 10 (λ r. IsInterfaceMissing missing 10 r 10)
+missing_fault : OfRow missing 10 (λ r. IsInterfaceMissing missing 10 r (on 10))
 unfolding missing
 missing_fault = record {
   concrete = refl;
@@ -264,6 +268,45 @@ missing_fault = record {
 left : List Row
 left = rows_of (class [] (codes "C") None [] (f (word.Abstract ∷ []) (codes "f") [] None None ∷ []) ∷ [])
 
-left_fault : OfRow left 9 (λ r. IsAbstractLeft left 9 r 1)
+left_fault : OfRow left 9 (λ r. IsAbstractLeft left 9 r (on 1))
 unfolding left
 left_fault = record { concrete = refl; not_abstract = refl; name = codes "f"; found = _; is_found = refl; left = refl; place = refl }
+
+-- `class P{private function f(){}} interface I{function f();} class C extends P implements I{}`: a private method of a class above
+-- carries nothing out
+hidden_above : List Row
+hidden_above = rows_of (class [] (codes "P") None [] (f (word.Private ∷ []) (codes "f") [] None block ∷ [])
+    ∷ interface (codes "I") [] (f [] (codes "f") [] None None ∷ []) ∷ class [] (codes "C") (Some (n (codes "P"))) (n (codes "I") ∷ []) [] ∷ [])
+
+hidden_above_fault : OfRow hidden_above 11 (λ r. IsInterfaceMissing hidden_above 11 r (on 21))
+unfolding hidden_above
+hidden_above_fault = record {
+  concrete = refl;
+  not_abstract = refl;
+  up = 10;
+  interface = _;
+  above = here _;
+  row = refl;
+  method = _;
+  asked = here _;
+  missing = refl;
+  place = refl;
+}
+
+-- `interface I{function f($a);} class P{function f(){}} class C extends P implements I{}`: an inherited method stands against the
+-- interface, and the fault is at the class's name
+inherits_unfit : List Row
+inherits_unfit = rows_of (interface (codes "I") [] (f [] (codes "f") (param false ∷ []) None None ∷ [])
+    ∷ class [] (codes "P") None [] (f [] (codes "f") [] None block ∷ []) ∷ class [] (codes "C") (Some (n (codes "P"))) (n (codes "I") ∷ []) [] ∷ [])
+
+inherits_unfit_fault : OfRow inherits_unfit 11 (λ r. IsBadOverride inherits_unfit 11 r (on 21))
+unfolding inherits_unfit
+inherits_unfit_fault = inherited _ 9 _ _ refl refl (here _) (λ is. elim is [ ]) refl (here _) (inr (fewer_params (ltb-true _ _ refl))) refl
+
+-- `interface I{protected function f();}`: what an interface has is public
+seen_in_interface : List Row
+seen_in_interface = rows_of (interface (codes "I") [] (f (word.Protected ∷ []) (codes "f") [] None None ∷ []) ∷ [])
+
+seen_from_outside : look.method seen_in_interface 9 (codes "f") None ≡ yes 20
+unfolding seen_in_interface
+seen_from_outside = refl

@@ -1,18 +1,14 @@
 -- What is wrong with the classes of a table, each kind at a token, and which fault is answered. A fault is one of a class that the
 -- script declares: what is built in has no place in it.
-use Rattle.std.specs.Prelude.{◌≡◌, ℕ, suc, zero, ◌≤◌, ◌<◌, Bool, true, false, Option, Some, None, List, [], ◌∷◌, ◌++◌, cond, map, not, length, nat_eq, nat_lt, codes}
+use Rattle.std.specs.Prelude.{◌≡◌, ℕ, suc, zero, ◌≤◌, ◌<◌, ◌⊎◌, Bool, true, false, Option, Some, None, List, [], ◌∷◌, ◌++◌, cond, map, not, length, nat_eq, nat_lt, codes}
 use Rattle.std.specs.Str.{bytes_eq}
+use Rattle.php_ast.specs.declared.spot.Spot.{Spot}
 use Rattle.php_ast.specs.declared.declaration.Visibility.{Visibility}
 use Rattle.php_ast.specs.declared.declaration.Visibility.TheVariants.{Public, Protected, Private}
 use Rattle.php_trait.specs.Declared.{Text, joined, kept, any, same_name, Kind, of_a_class, of_an_interface, of_a_trait}
 use Rattle.php_trait.specs.Faults.{In}
-use Rattle.php_class.specs.Rows.{TypeName, a_name, an_array, a_callable, TypeMark, ParamMark, SignatureMark, Row, Above, MethodRow, PropertyRow, ConstantRow, built_in}
-use Rattle.php_class.specs.Lookups.{number_of, row_at, is_class, first_of, numbers_of, parent, chain, named_interfaces, interfaces, ancestry, is_a, Found_at, first_declared, method_along, is_private}
-
-abbrev pub is_interface : Kind → Bool
-is_interface of_a_class = false
-is_interface of_an_interface = true
-is_interface of_a_trait = false
+use Rattle.php_class.specs.Rows.{TypeName, a_name, an_array, a_callable, TypeMark, ParamMark, SignatureMark, Row, Above, MethodRow, PropertyRow, ConstantRow, is_interface, built_in}
+use Rattle.php_class.specs.Lookups.{number_of, row_at, is_class, first_of, numbers_of, parent, chain, named_interfaces, interfaces, ancestry, is_a, Found_at, declared_in, first_declared, or_else, method_along, is_private}
 
 -- the row that a number stands for
 abbrev pub IsRow : List Row → ℕ → Row → Type 0
@@ -29,9 +25,9 @@ fits_parent of_a_class kind = is_class kind
 fits_parent of_an_interface kind = is_interface kind
 fits_parent of_a_trait kind = false
 
-pub data IsNoParent (rows : List Row) (r : Row) (at : ℕ) : Type 0 where
-  no_parent : (a : Above) → In a r.parents → is_of_kind (fits_parent r.kind) rows a.name ≡ false → a.place ≡ Some at → IsNoParent rows r at
-  no_interface : (a : Above) → In a r.interfaces → is_of_kind is_interface rows a.name ≡ false → a.place ≡ Some at → IsNoParent rows r at
+pub data IsNoParent (rows : List Row) (r : Row) (at : Spot) : Type 0 where
+  no_parent : (a : Above) → In a r.parents → is_of_kind (fits_parent r.kind) rows a.name ≡ false → a.spot ≡ Some at → IsNoParent rows r at
+  no_interface : (a : Above) → In a r.interfaces → is_of_kind is_interface rows a.name ≡ false → a.spot ≡ Some at → IsNoParent rows r at
 
 -- ---- a class or an interface is above itself
 
@@ -42,14 +38,20 @@ pub data Leads (rows : List Row) (last : Text) : Text → Type 0 where
       → In a r.parents → Leads rows last a.name → Leads rows last name
 
 -- the first name behind `extends` that leads back
-pub record IsCycle (rows : List Row) (r : Row) (at : ℕ) : Type 0 where
+pub record IsCycle (rows : List Row) (r : Row) (at : Spot) : Type 0 where
   pub before : List Above
   pub name : Above
   pub behind : List Above
   pub whole : before ++ (name ∷ behind) ≡ r.parents
   pub leads : Leads rows r.name name.name
   pub first : (a : Above) → In a before → Leads rows r.name a.name → ⊥
-  pub place : name.place ≡ Some at
+  pub place : name.spot ≡ Some at
+
+-- ---- what stands above
+
+-- all that stands above a class, without the class
+abbrev pub above_classes : List Row → ℕ → List ℕ
+above_classes rows number = kept (λ up. not (nat_eq up number)) (ancestry rows number)
 
 -- ---- a final class is extended, or a final method is declared again
 
@@ -58,11 +60,11 @@ has_final true m name = same_name m.name name
 has_final false m name = false
 
 -- Private methods count here too.
-pub data IsFinalBroken (rows : List Row) (number : ℕ) (r : Row) (at : ℕ) : Type 0 where
+pub data IsFinalBroken (rows : List Row) (number : ℕ) (r : Row) (at : Spot) : Type 0 where
   final_class : (a : Above) (up : ℕ) (above : Row) → In a r.parents → number_of rows a.name ≡ Some up → IsRow rows up above
-      → above.is_final ≡ true → a.place ≡ Some at → IsFinalBroken rows number r at
-  final_method : (m : MethodRow) (up : ℕ) (above : Row) (other : MethodRow) → In m r.methods → In up (chain rows number) → (up ≡ number → ⊥)
-      → IsRow rows up above → In other above.methods → has_final other.is_final other m.name ≡ true → m.place ≡ Some at → IsFinalBroken rows number r at
+      → above.is_final ≡ true → a.spot ≡ Some at → IsFinalBroken rows number r at
+  final_method : (m : MethodRow) (up : ℕ) (above : Row) (other : MethodRow) → In m r.methods → In up (above_classes rows number)
+      → IsRow rows up above → In other above.methods → has_final other.is_final other m.name ≡ true → m.spot ≡ Some at → IsFinalBroken rows number r at
 
 -- ---- a member doesn't fit what it stands against
 
@@ -70,10 +72,6 @@ abbrev pub rank : Visibility → ℕ
 rank Private = 0
 rank Protected = 1
 rank Public = 2
-
--- all that stands above a class, without the class
-abbrev pub above_classes : List Row → ℕ → List ℕ
-above_classes rows number = kept (λ up. not (nat_eq up number)) (ancestry rows number)
 
 -- A member stands against the one that its class would have from its parent without it, and against each one of an interface.
 pub data Against {A : Type 0} (members : Row → List A) (fits : A → Bool) (rows : List Row) (number : ℕ) : A → Type 0 where
@@ -138,6 +136,22 @@ pub data IsUnfit (s wanted : SignatureMark) : Type 0 where
   other_reference : same_bool s.is_reference wanted.is_reference ≡ false → IsUnfit s wanted
   other_result : result_fits s.result wanted.result ≡ false → IsUnfit s wanted
 
+-- ---- what a class has for a name
+
+abbrev pub seen_below : Row → List MethodRow
+seen_below r = kept (λ m. not (is_private m.seen)) r.methods
+
+abbrev pub own_method : List Row → ℕ → Text → Option (Found_at MethodRow)
+own_method rows number name = declared_in (λ r. r.methods) (λ m. same_name m.name name) rows number
+
+-- the method of a class above, where it isn't private there
+abbrev pub from_above : List Row → ℕ → Text → Option (Found_at MethodRow)
+from_above rows number name = first_declared seen_below (λ m. same_name m.name name) rows (kept (λ up. not (nat_eq up number)) (chain rows number))
+
+-- the method that carries a name out: the class's own, or else one of a class above
+abbrev pub carried_out : List Row → ℕ → Text → Option (Found_at MethodRow)
+carried_out rows number name = or_else (own_method rows number name) (from_above rows number name)
+
 -- ---- bad overriding
 
 abbrev pub is_throwable : Text → Bool
@@ -148,28 +162,30 @@ abbrev pub built_in_has : List Row → ℕ → ℕ → Bool
 built_in_has rows wanted number =
     any (λ up. cond (cond (nat_lt up (length built_in)) (not (nat_eq up wanted)) false) (is_a rows up wanted) false) (above_classes rows number)
 
-pub data IsBadOverride (rows : List Row) (number : ℕ) (r : Row) (at : ℕ) : Type 0 where
+pub data IsBadOverride (rows : List Row) (number : ℕ) (r : Row) (at : Spot) : Type 0 where
   method : (m other : MethodRow) → In m r.methods → Against (λ x. x.methods) (λ x. same_name x.name m.name) rows number other
-      → is_private other.seen ≡ false → Clashes m.seen other.seen m.is_static other.is_static → m.place ≡ Some at → IsBadOverride rows number r at
+      → is_private other.seen ≡ false → Clashes m.seen other.seen m.is_static other.is_static → m.spot ≡ Some at → IsBadOverride rows number r at
   property : (p other : PropertyRow) → In p r.properties → Against (λ x. x.properties) (λ x. bytes_eq x.name p.name) rows number other
-      → is_private other.seen ≡ false → Clashes p.seen other.seen p.is_static other.is_static → p.place ≡ Some at → IsBadOverride rows number r at
+      → is_private other.seen ≡ false → Clashes p.seen other.seen p.is_static other.is_static → p.spot ≡ Some at → IsBadOverride rows number r at
   constant : (c other : ConstantRow) → In c r.constants → Against (λ x. x.constants) (λ x. bytes_eq x.name c.name) rows number other
-      → is_private other.seen ≡ false → Narrows c.seen other.seen → c.place ≡ at → IsBadOverride rows number r at
+      → is_private other.seen ≡ false → Narrows c.seen other.seen → c.spot ≡ at → IsBadOverride rows number r at
   -- each abstract method of the name above counts, also behind one that carries it out
   signature : (m : MethodRow) (up : ℕ) (above : Row) (other : MethodRow) → In m r.methods → In up (above_classes rows number) → IsRow rows up above
       → In other above.methods → same_name other.name m.name ≡ true → other.is_abstract ≡ true → is_private other.seen ≡ false
-      → IsUnfit m.signature other.signature → m.place ≡ Some at → IsBadOverride rows number r at
+      → IsUnfit m.signature other.signature → m.spot ≡ Some at → IsBadOverride rows number r at
+  -- An inherited method stands against those of the interfaces that come with this class, and the class's name is the place.
+  inherited : (found : Found_at MethodRow) (up : ℕ) (interface : Row) (other : MethodRow) → own_method rows number other.name ≡ None
+      → from_above rows number other.name ≡ Some found → In up (joined (interfaces rows) (chain rows number)) → (In up (joined (interfaces rows) (chain rows found.class)) → ⊥)
+      → IsRow rows up interface → In other interface.methods
+      → Clashes found.what.seen other.seen found.what.is_static other.is_static ⊎ IsUnfit found.what.signature other.signature → r.spot ≡ Some at
+      → IsBadOverride rows number r at
   -- Throwable or Traversable is named, and nothing else that is built in and has it stands above
   built_in_alone : (a : Above) (wanted : ℕ) → In a (cond (is_class r.kind) r.interfaces r.parents) → is_throwable a.name ≡ true
-      → number_of rows a.name ≡ Some wanted → built_in_has rows wanted number ≡ false → a.place ≡ Some at → IsBadOverride rows number r at
+      → number_of rows a.name ≡ Some wanted → built_in_has rows wanted number ≡ false → a.spot ≡ Some at → IsBadOverride rows number r at
 
 -- ---- methods that are missing
 
--- the method that a class has for a name: its own, or one of the classes above it
-abbrev pub carried_out : List Row → ℕ → Text → Option (Found_at MethodRow)
-carried_out rows number name = first_declared (λ r. r.methods) (λ m. same_name m.name name) rows (chain rows number)
-
-pub record IsInterfaceMissing (rows : List Row) (number : ℕ) (r : Row) (at : ℕ) : Type 0 where
+pub record IsInterfaceMissing (rows : List Row) (number : ℕ) (r : Row) (at : Spot) : Type 0 where
   pub concrete : is_class r.kind ≡ true
   pub not_abstract : r.is_abstract ≡ false
   pub up : ℕ
@@ -179,16 +195,16 @@ pub record IsInterfaceMissing (rows : List Row) (number : ℕ) (r : Row) (at : �
   pub method : MethodRow
   pub asked : In method interface.methods
   pub missing : carried_out rows number method.name ≡ None
-  pub place : r.place ≡ Some at
+  pub place : r.spot ≡ Some at
 
-pub record IsAbstractLeft (rows : List Row) (number : ℕ) (r : Row) (at : ℕ) : Type 0 where
+pub record IsAbstractLeft (rows : List Row) (number : ℕ) (r : Row) (at : Spot) : Type 0 where
   pub concrete : is_class r.kind ≡ true
   pub not_abstract : r.is_abstract ≡ false
   pub name : Text
   pub found : Found_at MethodRow
   pub is_found : carried_out rows number name ≡ Some found
   pub left : found.what.is_abstract ≡ true
-  pub place : r.place ≡ Some at
+  pub place : r.spot ≡ Some at
 
 -- ---- the fault that is answered
 
@@ -200,7 +216,7 @@ pub data Fault : Type 0 where
   interface_missing : Fault
   abstract_left : Fault
 
-abbrev pub HasFault : List Row → ℕ → Row → Fault → ℕ → Type 0
+abbrev pub HasFault : List Row → ℕ → Row → Fault → Spot → Type 0
 HasFault rows number r no_parent at = IsNoParent rows r at
 HasFault rows number r cycle at = IsCycle rows r at
 HasFault rows number r final_broken at = IsFinalBroken rows number r at
@@ -219,23 +235,23 @@ order abstract_left = 5
 
 -- Of a kind that is asked of the whole script, no row has it.
 abbrev pub NoneHas : List Row → Fault → Type 0
-NoneHas rows fault = (number : ℕ) (r : Row) (at : ℕ) → IsRow rows number r → HasFault rows number r fault at → ⊥
+NoneHas rows fault = (number : ℕ) (r : Row) (at : Spot) → IsRow rows number r → HasFault rows number r fault at → ⊥
 
-abbrev pub LeastPlace : List Row → Fault → ℕ → Type 0
-LeastPlace rows fault at = (number : ℕ) (r : Row) (other : ℕ) → IsRow rows number r → HasFault rows number r fault other → at ≤ other
+abbrev pub LeastPlace : List Row → Fault → Spot → Type 0
+LeastPlace rows fault at = (number : ℕ) (r : Row) (other : Spot) → IsRow rows number r → HasFault rows number r fault other → at.place ≤ other.place
 
 -- In a row, no kind that goes before this one, and of this one no lesser place.
-abbrev pub FirstInRow : List Row → ℕ → Row → Fault → ℕ → Type 0
+abbrev pub FirstInRow : List Row → ℕ → Row → Fault → Spot → Type 0
 FirstInRow rows number r fault at =
-    ((other : Fault) (place : ℕ) → order other < order fault → HasFault rows number r other place → ⊥)
-    × ((place : ℕ) → HasFault rows number r fault place → at ≤ place)
+    ((other : Fault) (place : Spot) → order other < order fault → HasFault rows number r other place → ⊥)
+    × ((place : Spot) → HasFault rows number r fault place → at.place ≤ place.place)
 
 -- An unknown parent in any class goes first, then a class above itself in any class. Of the others the first class decides.
-pub data IsFirstFault (rows : List Row) : Fault → ℕ → Type 0 where
-  parents_first : (number : ℕ) (r : Row) (at : ℕ) → IsRow rows number r → IsNoParent rows r at → LeastPlace rows no_parent at → IsFirstFault rows no_parent at
-  then_cycles : (number : ℕ) (r : Row) (at : ℕ) → NoneHas rows no_parent → IsRow rows number r → IsCycle rows r at → LeastPlace rows cycle at
+pub data IsFirstFault (rows : List Row) : Fault → Spot → Type 0 where
+  parents_first : (number : ℕ) (r : Row) (at : Spot) → IsRow rows number r → IsNoParent rows r at → LeastPlace rows no_parent at → IsFirstFault rows no_parent at
+  then_cycles : (number : ℕ) (r : Row) (at : Spot) → NoneHas rows no_parent → IsRow rows number r → IsCycle rows r at → LeastPlace rows cycle at
       → IsFirstFault rows cycle at
-  then_by_class : (number : ℕ) (r : Row) (fault : Fault) (at : ℕ) → NoneHas rows no_parent → NoneHas rows cycle → order cycle < order fault
+  then_by_class : (number : ℕ) (r : Row) (fault : Fault) (at : Spot) → NoneHas rows no_parent → NoneHas rows cycle → order cycle < order fault
       → IsRow rows number r → HasFault rows number r fault at → FirstInRow rows number r fault at
-      → ((before : ℕ) (s : Row) (kind : Fault) (place : ℕ) → before < number → IsRow rows before s → HasFault rows before s kind place → ⊥)
+      → ((before : ℕ) (s : Row) (kind : Fault) (place : Spot) → before < number → IsRow rows before s → HasFault rows before s kind place → ⊥)
       → IsFirstFault rows fault at

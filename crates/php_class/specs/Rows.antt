@@ -2,6 +2,7 @@
 -- order. A class is known by its number, its place in this list.
 use Rattle.std.specs.Prelude.{◌≡◌, ℕ, suc, zero, Bool, true, false, Option, Some, None, List, [], ◌∷◌, ◌++◌, cond, map, not, length, codes}
 use Rattle.std.specs.Str.{bytes_eq}
+use Rattle.php_ast.specs.declared.spot.Spot.{Spot}
 use Rattle.php_ast.specs.declared.declaration.ClassModifier.{ClassModifier}
 use Rattle.php_ast.specs.declared.declaration.ClassModifier.TheVariants as class_word
 use Rattle.php_ast.specs.declared.declaration.ModifierWord.{ModifierWord}
@@ -12,7 +13,7 @@ use Rattle.php_ast.specs.expression.Tree.{Tree}
 use Rattle.php_ast.specs.expression.View.{Note}
 use Rattle.php_ast.specs.statement.Tree.{Name, Statements}
 use Rattle.php_ast.specs.declaration.Tree.{Base, of_name, of_array, of_callable, Type_of, Param, Signature, Modifier, Method}
-use Rattle.php_trait.specs.Declared.{Text, elements, joined, kept, any, first_that, one_or_none, same_name, member_text, member_place, Kind, of_a_class, of_an_interface, of_a_trait, Declared, declarations}
+use Rattle.php_trait.specs.Declared.{Text, elements, joined, kept, any, first_that, one_or_none, same_name, member_text, member_spot, name_spot, Kind, of_a_class, of_an_interface, of_a_trait, Declared, declarations}
 use Rattle.php_trait.specs.Members.{Held, Property, Fixed, Flat, flat}
 
 -- ---- types and parameters, as far as overriding compares them
@@ -42,8 +43,8 @@ pub record SignatureMark : Type 0 where
 
 pub record MethodRow : Type 0 where
   pub name : Text
-  -- the place of its name in the script; none of a built-in one
-  pub place : Option ℕ
+  -- of its name in the script; none of a built-in one
+  pub spot : Option Spot
   pub seen : Visibility
   pub is_static : Bool
   pub is_abstract : Bool
@@ -52,24 +53,24 @@ pub record MethodRow : Type 0 where
 
 pub record PropertyRow : Type 0 where
   pub name : Text
-  pub place : Option ℕ
+  pub spot : Option Spot
   pub seen : Visibility
   pub is_static : Bool
 
 pub record ConstantRow : Type 0 where
   pub name : Text
-  pub place : ℕ
+  pub spot : Spot
   pub seen : Visibility
 
--- a name behind `extends` or `implements`; its place is none for a built-in class
+-- a name behind `extends` or `implements`; of a built-in class it stands nowhere
 pub record Above : Type 0 where
   pub name : Text
-  pub place : Option ℕ
+  pub spot : Option Spot
 
 pub record Row : Type 0 where
   pub kind : Kind
   pub name : Text
-  pub place : Option ℕ
+  pub spot : Option Spot
   pub is_abstract : Bool
   pub is_final : Bool
   -- of a class at most one; of an interface those that it extends
@@ -117,23 +118,29 @@ is_word _ _ = false
 abbrev pub has_word : ModifierWord → Method Note → Bool
 has_word w m = any (λ x. is_word w x.word) (elements m.modifiers)
 
--- A method without a body is abstract: in an interface each is, in a class one with the word.
-abbrev pub method_row : Held → MethodRow
-method_row h = record {
+abbrev pub is_interface : Kind → Bool
+is_interface of_a_class = false
+is_interface of_an_interface = true
+is_interface of_a_trait = false
+
+-- A method without a body is abstract, and so is each of an interface, also one that comes to it through a trait. What an
+-- interface has is public, whatever word stands before it.
+abbrev pub method_row : Kind → Held → MethodRow
+method_row kind h = record {
   name = h.name;
-  place = Some (member_place h.method.name);
-  seen = h.seen;
+  spot = Some h.spot;
+  seen = cond (is_interface kind) Public h.seen;
   is_static = has_word word.Static h.method;
-  is_abstract = has_none h.method.body;
+  is_abstract = cond (is_interface kind) true (has_none h.method.body);
   is_final = has_word word.Final h.method;
   signature = signature_mark h.method;
 }
 
 abbrev pub property_row : Property → PropertyRow
-property_row p = record { name = p.variable.name.text; place = Some p.variable.name.note.place; seen = p.seen; is_static = p.is_static }
+property_row p = record { name = p.variable.name.text; spot = Some (name_spot p.variable.name); seen = p.seen; is_static = p.is_static }
 
 abbrev pub constant_row : Fixed → ConstantRow
-constant_row c = record { name = member_text c.constant.name; place = member_place c.constant.name; seen = c.seen }
+constant_row c = record { name = member_text c.constant.name; spot = member_spot c.constant.name; seen = c.seen }
 
 abbrev pub is_class_word : ClassModifier → ClassModifier → Bool
 is_class_word class_word.Abstract class_word.Abstract = true
@@ -141,18 +148,18 @@ is_class_word class_word.Final class_word.Final = true
 is_class_word _ _ = false
 
 abbrev pub above : Name Note → Above
-above n = record { name = n.text; place = Some n.note.place }
+above n = record { name = n.text; spot = Some (name_spot n) }
 
 abbrev pub row : Flat → Row
 row f = record {
   kind = f.declared.kind;
   name = f.declared.name.text;
-  place = Some f.declared.name.note.place;
+  spot = Some (name_spot f.declared.name);
   is_abstract = any (λ w. is_class_word class_word.Abstract w.word) f.declared.words;
   is_final = any (λ w. is_class_word class_word.Final w.word) f.declared.words;
   parents = map above f.declared.parents;
   interfaces = map above f.declared.interfaces;
-  methods = map method_row f.methods;
+  methods = map (method_row f.declared.kind) f.methods;
   properties = map property_row f.properties;
   constants = map constant_row f.constants;
 }
@@ -165,7 +172,7 @@ plain_param required = record { declared = None; is_reference = false; is_requir
 abbrev pub built_in_method : Text → Bool → List ParamMark → MethodRow
 built_in_method name is_final params = record {
   name = name;
-  place = None;
+  spot = None;
   seen = Public;
   is_static = false;
   is_abstract = false;
@@ -174,16 +181,16 @@ built_in_method name is_final params = record {
 }
 
 abbrev pub built_in_property : Text → Visibility → PropertyRow
-built_in_property name seen = record { name = name; place = None; seen = seen; is_static = false }
+built_in_property name seen = record { name = name; spot = None; seen = seen; is_static = false }
 
 abbrev pub extends_built_in : Text → List Above
-extends_built_in name = record { name = name; place = None } ∷ []
+extends_built_in name = record { name = name; spot = None } ∷ []
 
 abbrev pub built_in_interface : Text → Row
 built_in_interface name = record {
   kind = of_an_interface;
   name = name;
-  place = None;
+  spot = None;
   is_abstract = false;
   is_final = false;
   parents = [];
@@ -197,7 +204,7 @@ abbrev pub built_in_class : Text → Bool → List Above → List Above → List
 built_in_class name is_final parents interfaces methods properties = record {
   kind = of_a_class;
   name = name;
-  place = None;
+  spot = None;
   is_abstract = false;
   is_final = is_final;
   parents = parents;

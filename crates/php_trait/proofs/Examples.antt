@@ -1,6 +1,7 @@
 -- Small scripts, what their classes have and what is wrong with their traits. Each stands without notes, and its notes are
 -- those of its spelling, all of line 1.
 use Rattle.std.proofs.Common.{◌≡◌, ℕ, zero, suc, Bool, true, false, Option, Some, None, List, [], ◌∷◌, map, length, refl, pos}
+use Rattle.php_ast.specs.declared.spot.Spot.{Spot}
 use Rattle.php_ast.specs.declared.declaration.Visibility.{Visibility}
 use Rattle.php_ast.specs.declared.declaration.Visibility.TheVariants.{Public, Protected, Private}
 use Rattle.php_ast.specs.declared.declaration.ModifierWord.{ModifierWord}
@@ -131,6 +132,9 @@ once_more_methods = refl
 
 -- ---- faults
 
+abbrev on : ℕ → Spot
+on place = record { place = place; line = 1 }
+
 abbrev nth : List Declared → ℕ → Option Declared
 nth [] place = None
 nth (d ∷ ds) zero = Some d
@@ -148,7 +152,7 @@ OfNth ds place P = given (nth ds place)
 both : List Declared
 both = script (trait_of 84 (f 102 ∷ []) ∷ trait_of 85 (f 102 ∷ []) ∷ class_of 67 (uses tt (these (n 84 ∷ n 85 ∷ [])) ∷ []) ∷ [])
 
-both_conflict : OfNth both 2 (λ d. IsConflict both d 26)
+both_conflict : OfNth both 2 (λ d. IsConflict both d (on 26))
 unfolding both
 both_conflict = two_methods _ _ (first _ (here _)) refl refl refl
 
@@ -160,7 +164,7 @@ hides_methods : methods_of hides 2 ≡ seen 102 67 Public ∷ []
 unfolding hides
 hides_methods = refl
 
-hides_none : (place : ℕ) → OfNth hides 2 (λ d. IsConflict hides d place) → ⊥
+hides_none : (place : Spot) → OfNth hides 2 (λ d. IsConflict hides d place) → ⊥
 unfolding hides
 hides_none place (two_methods a b (first xs is) same own at) = cc
 hides_none place (two_methods a b (later_both _ _ (first ys is)) same own at) = elim is [ ]
@@ -173,7 +177,7 @@ twice : List Declared
 twice = script (trait_of 86 (f 102 ∷ []) ∷ trait_of 84 (uses tt (these (n 86 ∷ [])) ∷ []) ∷ trait_of 85 (uses tt (these (n 86 ∷ [])) ∷ [])
     ∷ class_of 67 (uses tt (these (n 84 ∷ n 85 ∷ [])) ∷ []) ∷ [])
 
-twice_conflict : OfNth twice 3 (λ d. IsConflict twice d 30)
+twice_conflict : OfNth twice 3 (λ d. IsConflict twice d (on 30))
 unfolding twice
 twice_conflict = two_methods _ _ (first _ (here _)) refl refl refl
 
@@ -181,7 +185,7 @@ twice_conflict = two_methods _ _ (first _ (here _)) refl refl refl
 through_one : List Declared
 through_one = script (trait_of 84 (f 102 ∷ f 104 ∷ []) ∷ class_of 67 (uses_by tt (these (n 84 ∷ [])) (these (renames tt None (w 102) None (Some (w 104)) ∷ [])) ∷ []) ∷ [])
 
-through_one_conflict : OfNth through_one 1 (λ d. IsConflict through_one d 20)
+through_one_conflict : OfNth through_one 1 (λ d. IsConflict through_one d (on 20))
 unfolding through_one
 through_one_conflict = two_methods _ _ (later_both _ _ (first _ (here _))) refl refl refl
 
@@ -189,7 +193,7 @@ through_one_conflict = two_methods _ _ (later_both _ _ (first _ (here _))) refl 
 missing : List Declared
 missing = script (class_of 67 (uses tt (these (n 88 ∷ [])) ∷ []) ∷ [])
 
-missing_fault : OfNth missing 0 (λ d. IsNotATrait missing d 4)
+missing_fault : OfNth missing 0 (λ d. IsNotATrait missing d (on 4))
 unfolding missing
 missing_fault = unknown _ (here _) refl refl
 
@@ -197,7 +201,7 @@ missing_fault = unknown _ (here _) refl refl
 no_trait : List Declared
 no_trait = script (class_of 88 [] ∷ class_of 67 (uses tt (these (n 88 ∷ [])) ∷ []) ∷ [])
 
-no_trait_fault : OfNth no_trait 1 (λ d. IsNotATrait no_trait d 8)
+no_trait_fault : OfNth no_trait 1 (λ d. IsNotATrait no_trait d (on 8))
 unfolding no_trait
 no_trait_fault = unknown _ (here _) refl refl
 
@@ -205,11 +209,11 @@ no_trait_fault = unknown _ (here _) refl refl
 circle : List Declared
 circle = script (trait_of 84 (uses tt (these (n 85 ∷ [])) ∷ []) ∷ trait_of 85 (uses tt (these (n 84 ∷ [])) ∷ []) ∷ class_of 67 (uses tt (these (n 84 ∷ [])) ∷ []) ∷ [])
 
-circle_fault : OfNth circle 0 (λ d. IsNotATrait circle d 4)
+circle_fault : OfNth circle 0 (λ d. IsNotATrait circle d (on 4))
 unfolding circle
 circle_fault = in_a_circle _ refl (here _) (goes_on _ _ _ refl (here _) (is_it _ refl)) refl
 
-circle_spares_class : (place : ℕ) → OfNth circle 2 (λ d. IsNotATrait circle d place) → ⊥
+circle_spares_class : (place : Spot) → OfNth circle 2 (λ d. IsNotATrait circle d place) → ⊥
 unfolding circle
 circle_spares_class place (unknown m (here xs) none at) = cc
 circle_spares_class place (unknown m (later _ _ other) none at) = elim other [ ]
@@ -220,19 +224,19 @@ unnamed : List Declared
 unnamed = script (trait_of 84 [] ∷ class_of 67 (uses_by tt (these (n 84 ∷ [])) (these (renames tt None (w 102) None (Some (w 103))
     ∷ renames tt (Some (n 85)) (w 102) None (Some (w 103)) ∷ prefers tt (n 84) (w 102) (these (n 85 ∷ [])) ∷ [])) ∷ []) ∷ [])
 
-unnamed_alone : OfNth unnamed 1 (λ d. IsNoSuchMember unnamed d 10)
+unnamed_alone : OfNth unnamed 1 (λ d. IsNoSuchMember unnamed d (on 10))
 unfolding unnamed
 unnamed_alone = record { rule = _; is_there = here _; names = as_alone _ _ _ _ refl refl }
 
-unnamed_of_another : OfNth unnamed 1 (λ d. IsNoSuchMember unnamed d 14)
+unnamed_of_another : OfNth unnamed 1 (λ d. IsNoSuchMember unnamed d (on 14))
 unfolding unnamed
 unnamed_of_another = record { rule = _; is_there = later _ _ (here _); names = as_of_another _ _ _ _ _ refl refl }
 
-unnamed_preferred : OfNth unnamed 1 (λ d. IsNoSuchMember unnamed d 22)
+unnamed_preferred : OfNth unnamed 1 (λ d. IsNoSuchMember unnamed d (on 22))
 unfolding unnamed
 unnamed_preferred = record { rule = _; is_there = later _ _ (later _ _ (here _)); names = prefers_none _ _ _ _ refl refl refl }
 
-unnamed_left : OfNth unnamed 1 (λ d. IsNoSuchMember unnamed d 24)
+unnamed_left : OfNth unnamed 1 (λ d. IsNoSuchMember unnamed d (on 24))
 unfolding unnamed
 unnamed_left = record { rule = _; is_there = later _ _ (later _ _ (here _)); names = leaves_another _ _ _ _ _ (here _) refl refl }
 
@@ -264,10 +268,10 @@ equal_null_one : OfNth equal_null 1 (λ d. owners (all_properties 2 equal_null d
 unfolding equal_null
 equal_null_one = refl
 
-equal_null_none : (place : ℕ) → OfNth equal_null 1 (λ d. IsConflict equal_null d place) → ⊥
+equal_null_none : (place : Spot) → OfNth equal_null 1 (λ d. IsConflict equal_null d place) → ⊥
 unfolding equal_null
 equal_null_none place (two_methods a b pair same own at) = elim pair [ ]
-equal_null_none place (own_property p q (here xs) (here ys) same differ at) = differ (record { seen = refl; static = refl; value = refl })
+equal_null_none place (own_property p q (here xs) (here ys) same differ at) = differ (record { seen = refl; static = refl; value = refl; names = refl })
 equal_null_none place (own_property _ q (here _) (later _ _ more) same differ at) = elim more [ ]
 equal_null_none place (own_property p q (later _ _ more) _ same differ at) = elim more [ ]
 equal_null_none place (two_properties p q (later_both _ _ more) same differ at) = elim more [ ]
@@ -280,7 +284,7 @@ other_value = script (trait_of 84 (prop (word.Public ∷ []) 97 one ∷ []) ∷ 
 null_is_not_one : default_form None ≡ default_form (Some (tree.leaf (placed.token 0) (tree.int (pos 1)))) → ⊥
 null_is_not_one is = cc
 
-other_value_conflict : OfNth other_value 1 (λ d. IsConflict other_value d 13)
+other_value_conflict : OfNth other_value 1 (λ d. IsConflict other_value d (on 13))
 unfolding other_value
 other_value_conflict = own_property _ _ (here _) (here _) refl (λ same. null_is_not_one same.value) refl
 
@@ -291,3 +295,30 @@ other_case = script (trait_of 84 (prop (word.Public ∷ []) 65 one ∷ []) ∷ c
 other_case_both : OfNth other_case 1 (λ d. owners (all_properties 2 other_case d) ≡ (97 ∷ [], 67 ∷ []) ∷ (65 ∷ [], 84 ∷ []) ∷ [])
 unfolding other_case
 other_case_both = refl
+
+-- `NULL` is null as well: `trait T{public $a;} class C{use T;public $a=NULL;}`
+capitals : List Declared
+capitals = script (trait_of 84 (prop (word.Public ∷ []) 97 None ∷ []) ∷ class_of 67 (uses tt (these (n 84 ∷ []))
+    ∷ prop (word.Public ∷ []) 97 (Some (tree.leaf tt (tree.name (78 ∷ 85 ∷ 76 ∷ 76 ∷ [])))) ∷ []) ∷ [])
+
+capitals_none : (place : Spot) → OfNth capitals 1 (λ d. IsConflict capitals d place) → ⊥
+unfolding capitals
+capitals_none place (two_methods a b pair same own at) = elim pair [ ]
+capitals_none place (own_property p q (here xs) (here ys) same differ at) = differ (record { seen = refl; static = refl; value = refl; names = refl })
+capitals_none place (own_property _ q (here _) (later _ _ more) same differ at) = elim more [ ]
+capitals_none place (own_property p q (later _ _ more) _ same differ at) = elim more [ ]
+capitals_none place (two_properties p q (later_both _ _ more) same differ at) = elim more [ ]
+capitals_none place (two_properties p q (first xs behind) same differ at) = elim behind [ ]
+
+-- `class C{use T;} trait T{use A,B;} trait A{function f(){}} trait B{function f(){}}`: the fault is of T, which joins the two
+handed : List Declared
+handed = script (class_of 67 (uses tt (these (n 84 ∷ [])) ∷ []) ∷ trait_of 84 (uses tt (these (n 65 ∷ n 66 ∷ [])) ∷ [])
+    ∷ trait_of 65 (f 102 ∷ []) ∷ trait_of 66 (f 102 ∷ []) ∷ [])
+
+handed_conflict : OfNth handed 1 (λ d. IsConflict handed d (on 13))
+unfolding handed
+handed_conflict = two_methods _ _ (first _ (here _)) refl refl refl
+
+handed_methods : methods_of handed 0 ≡ seen 102 65 Public ∷ []
+unfolding handed
+handed_methods = refl

@@ -1,6 +1,7 @@
 -- What a script declares beside functions: its classes, interfaces and traits, in source order, and their names.
 use Rattle.std.specs.Prelude.{◌≡◌, ℕ, Bool, true, false, Option, Some, None, List, [], ◌∷◌, ◌++◌, cond}
 use Rattle.std.specs.Str.{str_eq_ignore_ascii_case}
+use Rattle.php_ast.specs.declared.spot.Spot.{Spot}
 use Rattle.php_ast.specs.declared.declaration.ClassModifier.{ClassModifier}
 use Rattle.php_ast.specs.expression.Tree.{Member, named, reserved, held}
 use Rattle.php_ast.specs.expression.View.{Note}
@@ -43,10 +44,17 @@ member_text (named note text) = text
 member_text (reserved note word) = note.text
 member_text (held note text) = text
 
-abbrev pub member_place : Member Note → ℕ
-member_place (named note text) = note.place
-member_place (reserved note word) = note.place
-member_place (held note text) = note.place
+-- where a token stands, by its note
+abbrev pub spot : Note → Spot
+spot note = record { place = note.place; line = note.line }
+
+abbrev pub name_spot : Name Note → Spot
+name_spot n = spot n.note
+
+abbrev pub member_spot : Member Note → Spot
+member_spot (named note text) = spot note
+member_spot (reserved note word) = spot note
+member_spot (held note text) = spot note
 
 -- ---- declarations
 

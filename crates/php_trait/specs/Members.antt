@@ -2,6 +2,7 @@
 -- those of its traits, by the rules of its `use`.
 use Rattle.std.specs.Prelude.{◌≡◌, ℕ, suc, zero, Bool, true, false, Option, Some, None, List, [], ◌∷◌, ◌++◌, cond, map, not, length}
 use Rattle.std.specs.Str.{bytes_eq}
+use Rattle.php_ast.specs.declared.spot.Spot.{Spot}
 use Rattle.php_ast.specs.declared.declaration.ModifierWord.{ModifierWord}
 use Rattle.php_ast.specs.declared.declaration.ModifierWord.TheVariants as word
 use Rattle.php_ast.specs.declared.declaration.Visibility.{Visibility}
@@ -10,7 +11,7 @@ use Rattle.php_ast.specs.expression.Tree.{Tree}
 use Rattle.php_ast.specs.expression.View.{Note}
 use Rattle.php_ast.specs.statement.Tree.{Name, Variable, Sequence}
 use Rattle.php_ast.specs.declaration.Tree.{Modifier, ClassConstant, Method, Rule, renames, prefers, Member, uses, uses_by, class_constants, method, properties}
-use Rattle.php_trait.specs.Declared.{Text, elements, joined, kept, any, same_name, member_text, Declared, trait_named}
+use Rattle.php_trait.specs.Declared.{Text, elements, joined, kept, any, same_name, member_text, member_spot, Declared, trait_named}
 
 -- ---- marks
 
@@ -47,6 +48,8 @@ has_static ms = any (λ m. is_static_word m.word) ms
 pub record Held : Type 0 where
   pub owner : Name Note
   pub name : Text
+  -- of the token that gives the name: in the method, or in the rule
+  pub spot : Spot
   pub seen : Visibility
   pub method : Method Note
 
@@ -65,7 +68,7 @@ abbrev pub method_of : Name Note → Member Note → List Held
 method_of owner (uses note names) = []
 method_of owner (uses_by note names rules) = []
 method_of owner (class_constants modifiers constants) = []
-method_of owner (method m) = record { owner = owner; name = member_text m.name; seen = seen_by (elements m.modifiers); method = m } ∷ []
+method_of owner (method m) = record { owner = owner; name = member_text m.name; spot = member_spot m.name; seen = seen_by (elements m.modifiers); method = m } ∷ []
 method_of owner (properties modifiers variables) = []
 
 abbrev pub properties_of : Name Note → Member Note → List Property
@@ -160,7 +163,7 @@ further_names rules trait yields h = joined under rules
     under (renames note origin w seen None) = []
     under (renames note origin w seen (Some alias)) =
         cond (cond (gives origin) (same_name (member_text w) h.name) false)
-        (record { owner = h.owner; name = member_text alias; seen = or_as_it_is seen h.seen; method = h.method } ∷ []) []
+        (record { owner = h.owner; name = member_text alias; spot = member_spot alias; seen = or_as_it_is seen h.seen; method = h.method } ∷ []) []
 
 -- the names under which a method of a used trait comes
 abbrev pub comes : List (Rule Note) → Text → Held → List Held
@@ -168,7 +171,7 @@ comes rules trait h = under (gives_way rules trait h.name)
   where
     under : Bool → List Held
     under true = further_names rules trait true h
-    under false = record { owner = h.owner; name = h.name; seen = seen_under rules trait h.name h.seen; method = h.method }
+    under false = record { owner = h.owner; name = h.name; spot = h.spot; seen = seen_under rules trait h.name h.seen; method = h.method }
         ∷ further_names rules trait false h
 
 -- ---- what comes through traits
@@ -209,11 +212,11 @@ abbrev pub gained_of : (Declared → List Held) → List Declared → Declared �
 gained_of methods ds d = through_each (λ t. joined (comes (rules_of d) t.name.text) (methods t)) ds (used d)
 
 -- Traits may use traits, to a depth that is less than their number where none uses itself on the way. A declaration has its
--- own methods first; those of traits under a name that it declares itself are left out.
+-- own methods first, which hide those of traits. Where two of its traits bring one name, the first is what it hands on: the
+-- fault is of the declaration whose `use` joins them, and of none that uses it.
 abbrev pub methods : ℕ → List Declared → Declared → List Held
 methods zero ds d = own_methods d
-methods (suc depth) ds d =
-    own_methods d ++ kept (λ h. not (names_method (own_methods d) h.name)) (what_came (gained_of (methods depth ds) ds d))
+methods (suc depth) ds d = once (λ hs h. names_method hs h.name) (own_methods d) (what_came (gained_of (methods depth ds) ds d))
 
 abbrev pub gained : ℕ → List Declared → Declared → List (Through Held)
 gained zero ds d = []
