@@ -11,7 +11,7 @@ use crate::slots::slot_of;
 use indexmap::IndexSet;
 use php_actions::{
     Action, BaseForm, JumpAction, NameAction, OperatorAction, OutputAction, PlaceAction, PlaceForm,
-    StackAction,
+    Relation, StackAction,
 };
 use php_ast::{Assign, Binary, Expr, Magic, Name, Prefix, Spot};
 use php_base::NoMemory;
@@ -177,6 +177,12 @@ fn operate(op: Op) -> Option<Action>
     Some(Action::Operator(OperatorAction::Operate(op)))
 }
 
+fn compare(relation: Relation) -> Option<Action>
+    ensures { result ≡ Some (form.compare relation) }
+{
+    Some(Action::Operator(OperatorAction::Compare(relation)))
+}
+
 /// None of an operator that isn't told yet.
 pub fn binary_action(op: Binary) -> Option<Action>
     ensures { result ≡ form.binary_action op }
@@ -194,17 +200,17 @@ pub fn binary_action(op: Binary) -> Option<Action>
         Binary::BitAnd => operate(Op::And),
         Binary::BitXor => operate(Op::Xor),
         Binary::BitOr => operate(Op::Or),
-        Binary::WordXor => Some(Action::Operator(OperatorAction::ExclusiveOr)),
-        Binary::Less => None,
-        Binary::LessEqual => None,
-        Binary::Greater => None,
-        Binary::GreaterEqual => None,
-        Binary::Equal => None,
-        Binary::NotEqual => None,
-        Binary::LessGreater => None,
-        Binary::Identical => None,
-        Binary::NotIdentical => None,
-        Binary::Compared => None,
+        Binary::WordXor => operator(OperatorAction::ExclusiveOr),
+        Binary::Less => compare(Relation::Less),
+        Binary::LessEqual => compare(Relation::LessEqual),
+        Binary::Greater => compare(Relation::Greater),
+        Binary::GreaterEqual => compare(Relation::GreaterEqual),
+        Binary::Equal => compare(Relation::Equal),
+        Binary::NotEqual => compare(Relation::NotEqual),
+        Binary::LessGreater => compare(Relation::NotEqual),
+        Binary::Identical => operator(OperatorAction::Identical { negated: false }),
+        Binary::NotIdentical => operator(OperatorAction::Identical { negated: true }),
+        Binary::Compared => compare(Relation::Compared),
         Binary::LogicalAnd => None,
         Binary::LogicalOr => None,
         Binary::Coalesced => None,

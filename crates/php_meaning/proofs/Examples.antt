@@ -9,6 +9,8 @@ use Rattle.php_memdef.specs.Reading.{reading}
 use Rattle.php_memdef.specs.Temporaries.{enter, leave, push, push_array, pass, turn, drop_top, copy, settle}
 use Rattle.php_memdef.specs.Writes.{assign, shed}
 use Rattle.php_memdef.specs.Releases.{fall}
+use Rattle.php_compare.specs.Ordering.{order_nested}
+use Rattle.php_compare.specs.Identity.{same_nested}
 use Rattle.php_actions.specs.Effect.{effect}
 use Rattle.php_actions.specs.Frames.{landed, unserved}
 use Rattle.php_actions.specs.Plan.{plan, truth}
@@ -16,7 +18,7 @@ use Rattle.php_meaning.specs.Constants.{constant_of}
 use Rattle.php_meaning.specs.Examples.{MeaningExamples}
 
 pub meaning_examples : MeaningExamples
-unfolding digits set_value append_value remove_key pop_entry holders object_holders copied find_place walk reading enter leave push push_array pass turn drop_top copy settle assign shed fall effect landed unserved plan truth constant_of
+unfolding digits set_value append_value remove_key pop_entry holders object_holders copied find_place walk reading enter leave push push_array pass turn drop_top copy settle assign shed fall effect landed unserved plan truth constant_of order_nested same_nested
 meaning_examples = record {
   nothing = refl;
   writes_bytes = refl;
@@ -25,6 +27,11 @@ meaning_examples = record {
   assigns_twice = refl;
   fills_a_template = refl;
   casts = refl;
+  compares = refl;
+  compares_the_right_side_too = refl;
+  tells_two_truths_from_one = refl;
+  writes_each_before_the_next = refl;
+  blocks_and_blanks_take_no_tick = refl;
   prints_one = refl;
   knows_its_line = refl;
   missing_variable_is_null = refl;

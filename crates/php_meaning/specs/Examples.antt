@@ -9,7 +9,7 @@ use Rattle.php_ast.specs.declared.operator.Assign.TheVariants as setting
 use Rattle.php_ast.specs.declared.operator.Magic.TheVariants as magic_word
 use Rattle.php_ast.specs.expression.Tree.{Leaf, variable, int, string, name, magic, parentheses, by_value}
 use Rattle.php_ast.specs.expression.Tree.{Tree, leaf, template, enclosed, prefix, binary, assign, none, and, plain, no_piece, bytes, value}
-use Rattle.php_ast.specs.statement.Tree.{empty, then_also, Statement, inline, expression, echo}
+use Rattle.php_ast.specs.statement.Tree.{Sequence, empty, then_also, Statement, block, blank, inline, expression, echo, no_statement, and_statement}
 use Rattle.php_ast.specs.declaration.Tree.{of_statement, Script}
 use Rattle.php_ast.specs.expression.View.{Note}
 use Rattle.php_actions.specs.declared.ending.Ending.{Ending}
@@ -80,6 +80,11 @@ pub record MeaningExamples : Type 0 where
   pub assigns_twice : report 9 (script (writes_one (binary op.Plus (set_x (number 2)) (set_x (number 5))) ∷ writes_one $x ∷ [])) ≡ ends (Done 0) (codes "75") 2 0
   pub fills_a_template : report 9 (script (does (set_x (number 7)) ∷ writes_one (template (on_line 2) (bytes (value (bytes no_piece (codes "a")) $x) (codes "b"))) ∷ [])) ≡ ends (Done 0) (codes "a7b") 2 0
   pub casts : report 9 (script (writes_one (prefix (on_line 1) to.ToInt (text (codes "12"))) ∷ writes_one (prefix (on_line 1) to.Minus (number 3)) ∷ writes_one (prefix (on_line 1) to.Not (number 0)) ∷ [])) ≡ ends (Done 0) (codes "12-31") 3 0
+  pub compares : report 9 (script (writes_one (binary op.Equal (number 1) (number 2)) ∷ writes_one (binary op.Compared (number 2) (number 3)) ∷ writes_one (binary op.NotIdentical (number 2) (text (codes "2"))) ∷ [])) ≡ ends (Done 0) (codes "-11") 3 0
+  pub compares_the_right_side_too : report 9 (script (writes_one (binary op.Equal (number 1) (binary op.Divided (number 1) (number 0))) ∷ [])) ≡ ends (Uncaught (codes "DivisionByZeroError") (codes "Division by zero") (pos 2)) [] 1 0
+  pub tells_two_truths_from_one : report 9 (script (writes_one (binary op.WordXor (number 1) (number 2)) ∷ writes_one (binary op.WordXor (number 0) (number 2)) ∷ [])) ≡ ends (Done 0) (codes "1") 2 0
+  pub writes_each_before_the_next : report 9 (script (echo (on_line 2) (and (and none plain (number 1)) plain (binary op.Divided (number 1) (number 0))) ∷ [])) ≡ ends (Uncaught (codes "DivisionByZeroError") (codes "Division by zero") (pos 2)) (codes "1") 1 0
+  pub blocks_and_blanks_take_no_tick : report 9 (script (block (on_line 1) (and_statement (and_statement no_statement (writes_one (number 1))) (writes_one (number 2))) ∷ blank (on_line 1) ∷ [])) ≡ ends (Done 0) (codes "12") 2 0
   pub prints_one : report 9 (script (writes_one (prefix (on_line 1) to.Print (text (codes "a"))) ∷ [])) ≡ ends (Done 0) (codes "a1") 1 0
   pub knows_its_line : report 9 (script (writes_one (leaf (on_line 6) (magic magic_word.Line)) ∷ writes_one (of_leaf (magic magic_word.Class)) ∷ [])) ≡ ends (Done 0) (codes "6") 2 0
   pub missing_variable_is_null : report 9 (script (writes_one $x ∷ [])) ≡ ends (Done 0) [] 1 0

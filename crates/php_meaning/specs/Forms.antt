@@ -22,7 +22,9 @@ use Rattle.php_actions.specs.declared.place_form.BaseForm.{BaseForm}
 use Rattle.php_actions.specs.declared.place_form.BaseForm.TheVariants.{Variable, This}
 use Rattle.php_actions.specs.declared.place_form.PlaceForm.{PlaceForm}
 use Rattle.php_actions.specs.declared.operators.OperatorAction.{OperatorAction}
-use Rattle.php_actions.specs.declared.operators.OperatorAction.TheVariants.{Operate, ExclusiveOr, ToBool, Not, ToInt, ToText, Sign, Complement}
+use Rattle.php_actions.specs.declared.operators.OperatorAction.TheVariants.{Operate, Compare, Identical, ExclusiveOr, ToBool, Not, ToInt, ToText, Sign, Complement}
+use Rattle.php_actions.specs.declared.relation.Relation.{Relation}
+use Rattle.php_actions.specs.declared.relation.Relation.TheVariants as relation
 use Rattle.php_actions.specs.declared.output.OutputAction.TheVariants.{Print}
 use Rattle.php_actions.specs.declared.names.NameAction.TheVariants.{PushConstant}
 use Rattle.php_actions.specs.declared.jumps.JumpAction.TheVariants.{Tick}
@@ -84,6 +86,9 @@ operator a = Operator a
 abbrev pub operate : Op → Action
 operate o = operator (Operate o)
 
+abbrev pub compare : Relation → Action
+compare r = operator (Compare r)
+
 -- none of an operator that isn't told yet
 abbrev pub binary_action : Binary → Option Action
 binary_action binary.Power = Some (operate op.Pow)
@@ -99,16 +104,16 @@ binary_action binary.BitAnd = Some (operate op.And)
 binary_action binary.BitXor = Some (operate op.Xor)
 binary_action binary.BitOr = Some (operate op.Or)
 binary_action binary.WordXor = Some (operator ExclusiveOr)
-binary_action binary.Less = None
-binary_action binary.LessEqual = None
-binary_action binary.Greater = None
-binary_action binary.GreaterEqual = None
-binary_action binary.Equal = None
-binary_action binary.NotEqual = None
-binary_action binary.LessGreater = None
-binary_action binary.Identical = None
-binary_action binary.NotIdentical = None
-binary_action binary.Compared = None
+binary_action binary.Less = Some (compare relation.Less)
+binary_action binary.LessEqual = Some (compare relation.LessEqual)
+binary_action binary.Greater = Some (compare relation.Greater)
+binary_action binary.GreaterEqual = Some (compare relation.GreaterEqual)
+binary_action binary.Equal = Some (compare relation.Equal)
+binary_action binary.NotEqual = Some (compare relation.NotEqual)
+binary_action binary.LessGreater = Some (compare relation.NotEqual)
+binary_action binary.Identical = Some (operator (Identical false))
+binary_action binary.NotIdentical = Some (operator (Identical true))
+binary_action binary.Compared = Some (compare relation.Compared)
 binary_action binary.LogicalAnd = None
 binary_action binary.LogicalOr = None
 binary_action binary.Coalesced = None
