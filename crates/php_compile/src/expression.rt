@@ -115,7 +115,7 @@ impl Emitter {
             ++ Do (form.constant_action (constant_of name.now) name.now) ∷ []) }
         ensures peak { OnOk result (self.new.peak ≡ max self.old.peak (standing + 1)) }
     {
-        let action = constant_action(name)?;
+        let action = constant_action(self.alloc, name)?;
         self.put_leaf(action, standing)
     }
 

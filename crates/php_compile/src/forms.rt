@@ -4,7 +4,7 @@ ghost use Rattle.std.specs.Option.{option_map};
 ghost use Rattle.php_ast.specs.expression.Tree as tree;
 ghost use Rattle.php_ast.specs.expression.View.{spot_view, view};
 ghost use Rattle.php_value.specs.declared.scalar.Scalar.TheVariants as scalar;
-ghost use Rattle.php_meaning.specs.Constants.{constant_of};
+ghost use Rattle.php_meaning.specs.Constants.{constant_of, int_constants, library_constants, value_in};
 ghost use Rattle.php_meaning.specs.Forms as form;
 
 use crate::slots::slot_of;
@@ -134,24 +134,59 @@ pub fn push_text(text: &Text) -> Result<Action, NoMemory>
 
 // The constant of a name that no script defines.
 #[tactic(auto, unfolding(php_meaning::specs::Constants::constant_of))]
-fn constant_of(name: &[u8]) -> Option<Scalar>
-    ensures { result ≡ constant_of name.now }
+fn constant_of(alloc: Global, name: &[u8]) -> Result<Option<Scalar>, NoMemory>
+    ensures { IfOk result (λ value. value ≡ constant_of name.now) }
 {
     if name.eq_ignore_ascii_case(b"true") {
-        Some(Scalar::Bool(true))
+        Ok(Some(Scalar::Bool(true)))
     } else if name.eq_ignore_ascii_case(b"false") {
-        Some(Scalar::Bool(false))
+        Ok(Some(Scalar::Bool(false)))
     } else if name.eq_ignore_ascii_case(b"null") {
-        Some(Scalar::Null)
+        Ok(Some(Scalar::Null))
+    } else {
+        library_constant(alloc, name)
+    }
+}
+
+// The constant of the library.
+fn library_constant(alloc: Global, name: &[u8]) -> Result<Option<Scalar>, NoMemory>
+    ensures { IfOk result (λ value. value ≡ value_in library_constants name.now) }
+{
+    if name == b"PHP_EOL".as_slice() {
+        return Ok(Some(Scalar::Str(Text::from_bytes(alloc, b"\n")?)));
+    }
+    Ok(int_constant(name))
+}
+
+#[tactic(auto, unfolding(php_meaning::specs::Constants::int_constants))]
+fn int_constant(name: &[u8]) -> Option<Scalar>
+    ensures { result ≡ value_in int_constants name.now }
+{
+    if name == b"PHP_INT_MAX".as_slice() {
+        Some(Scalar::Int(i64::MAX))
+    } else if name == b"PHP_INT_MIN".as_slice() {
+        Some(Scalar::Int(i64::MIN))
+    } else if name == b"PHP_INT_SIZE".as_slice() {
+        Some(Scalar::Int(8))
+    } else if name == b"SORT_REGULAR".as_slice() {
+        Some(Scalar::Int(0))
+    } else if name == b"SORT_STRING".as_slice() {
+        Some(Scalar::Int(2))
+    } else if name == b"STR_PAD_LEFT".as_slice() {
+        Some(Scalar::Int(0))
+    } else if name == b"STR_PAD_RIGHT".as_slice() {
+        Some(Scalar::Int(1))
+    } else if name == b"STR_PAD_BOTH".as_slice() {
+        Some(Scalar::Int(2))
     } else {
         None
     }
 }
 
-pub fn constant_action(name: &Text) -> Result<Action, NoMemory>
+pub fn constant_action(alloc: Global, name: &Text) -> Result<Action, NoMemory>
     ensures { IfOk result (λ action. action ≡ form.constant_action (constant_of name.now) name.now) }
 {
-    match constant_of(name.bytes()) {
+    match constant_of(alloc, name.bytes())? {
         Some(value) => Ok(Action::Stack(StackAction::Push(value))),
         None => Ok(Action::Name(NameAction::PushConstant(name.share()?))),
     }

@@ -40,10 +40,15 @@ fn action_text(alloc: Global, action: &Action) -> Result<String, AllocError> {
     }
 }
 
+// A line feed is shown as `\n`, and so a backslash doubled: a listing is one line.
 fn named(alloc: Global, word: &str, text: &Text) -> Result<String, AllocError> {
     let mut shown = String::new(alloc);
     for byte in text.bytes() {
-        shown.push(*byte as char)?;
+        match *byte {
+            b'\n' => shown.push_str("\\n")?,
+            b'\\' => shown.push_str("\\\\")?,
+            byte => shown.push(byte as char)?,
+        }
     }
     format!(in alloc; "{word} '{shown}'")
 }

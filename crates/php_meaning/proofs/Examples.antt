@@ -14,11 +14,11 @@ use Rattle.php_compare.specs.Identity.{same_nested}
 use Rattle.php_actions.specs.Effect.{effect}
 use Rattle.php_actions.specs.Frames.{landed, unserved}
 use Rattle.php_actions.specs.Plan.{plan, truth}
-use Rattle.php_meaning.specs.Constants.{constant_of}
+use Rattle.php_meaning.specs.Constants.{int_constants, constant_of}
 use Rattle.php_meaning.specs.Examples.{MeaningExamples}
 
 pub meaning_examples : MeaningExamples
-unfolding digits set_value append_value remove_key pop_entry holders object_holders copied find_place walk reading enter leave push push_array pass turn drop_top copy settle assign shed fall effect landed unserved plan truth constant_of order_nested same_nested
+unfolding digits set_value append_value remove_key pop_entry holders object_holders copied find_place walk reading enter leave push push_array pass turn drop_top copy settle assign shed fall effect landed unserved plan truth int_constants constant_of order_nested same_nested
 meaning_examples = record {
   nothing = refl;
   writes_bytes = refl;
@@ -36,6 +36,10 @@ meaning_examples = record {
   knows_its_line = refl;
   missing_variable_is_null = refl;
   constants_in_any_case = refl;
+  constants_of_the_library = refl;
+  line_feed = refl;
+  past_the_greatest_int = refl;
+  library_in_its_own_letters = refl;
   undefined_constant = refl;
   no_this = refl;
   division_by_zero = refl;

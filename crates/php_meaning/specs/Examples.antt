@@ -54,6 +54,9 @@ number n = of_leaf (int (pos n))
 abbrev pub text : List ℕ → Tree Note
 text t = of_leaf (string t)
 
+abbrev pub constant : List ℕ → Tree Note
+constant n = of_leaf (name n)
+
 abbrev pub $x : Tree Note
 $x = of_leaf (variable (codes "x"))
 
@@ -89,6 +92,10 @@ pub record MeaningExamples : Type 0 where
   pub knows_its_line : report 9 (script (writes_one (leaf (on_line 6) (magic magic_word.Line)) ∷ writes_one (of_leaf (magic magic_word.Class)) ∷ [])) ≡ ends (Done 0) (codes "6") 2 0
   pub missing_variable_is_null : report 9 (script (writes_one $x ∷ [])) ≡ ends (Done 0) [] 1 0
   pub constants_in_any_case : report 9 (script (writes_one (of_leaf (name (codes "True"))) ∷ writes_one (of_leaf (name (codes "NULL"))) ∷ [])) ≡ ends (Done 0) (codes "1") 2 0
+  pub constants_of_the_library : report 9 (script (writes_one (constant (codes "PHP_INT_SIZE")) ∷ writes_one (constant (codes "PHP_INT_MIN")) ∷ writes_one (binary op.Minus (constant (codes "STR_PAD_BOTH")) (constant (codes "STR_PAD_RIGHT"))) ∷ [])) ≡ ends (Done 0) (codes "8-92233720368547758081") 3 0
+  pub line_feed : report 9 (script (writes_one (constant (codes "PHP_EOL")) ∷ [])) ≡ ends (Done 0) (10 ∷ []) 1 0
+  pub past_the_greatest_int : report 9 (script (writes_one (text (codes "a")) ∷ writes_one (binary op.Plus (constant (codes "PHP_INT_MAX")) (number 1)) ∷ [])) ≡ ends (Fatal fault.Overflow 2) (codes "a") 2 0
+  pub library_in_its_own_letters : report 9 (script (writes_one (constant (codes "php_int_max")) ∷ [])) ≡ ends (Uncaught (codes "Error") (codes "Undefined constant 'php_int_max'") (pos 2)) [] 1 0
   pub undefined_constant : report 9 (script (writes_one (of_leaf (name (codes "A"))) ∷ [])) ≡ ends (Uncaught (codes "Error") (codes "Undefined constant 'A'") (pos 2)) [] 1 0
   pub no_this : report 9 (script (writes_one (of_leaf (variable (codes "this"))) ∷ [])) ≡ ends (Uncaught (codes "Error") (codes "Using $this when not in object context") (pos 2)) [] 1 0
   pub division_by_zero : report 9 (script (inline (on_line 1) (codes "a") ∷ writes_one (binary op.Divided (number 1) (number 0)) ∷ writes_one (number 3) ∷ [])) ≡ ends (Uncaught (codes "DivisionByZeroError") (codes "Division by zero") (pos 2)) (codes "a") 2 0
