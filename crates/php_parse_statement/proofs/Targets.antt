@@ -102,6 +102,9 @@ plain_shown tokens at e form is = ap (λ z. record { is_reference = false; place
 pub target_shift : (tokens : List Token) (place other : ℕ) (made : Target Note) (t : Target Nothing) → made ≡ noted_target (notes_of tokens) place t → other ≡ place → made ≡ noted_target (notes_of tokens) other t
 target_shift tokens place other made t is same = is ∙ ap (λ k. noted_target (notes_of tokens) k t) (sym same)
 
+pub key_shift : (tokens : List Token) (place other : ℕ) (made : Option (Target Note)) (k : Option (Target Nothing)) → made ≡ noted_key (notes_of tokens) place k → other ≡ place → made ≡ noted_key (notes_of tokens) other k
+key_shift tokens place other made k is same = is ∙ ap (λ p. noted_key (notes_of tokens) p k) (sym same)
+
 pub foreach_spans : (tokens : List Token) (made : Statement Note) (spot : Note) (e : Tree Note) (key : Option (Target Note)) (value : Target Note) (shown : Body Note) (form : Form) (k : Option (Target Nothing)) (v : Target Nothing) (body : Body Nothing) (at place next : ℕ)
     → made ≡ foreach spot e key value shown → spot ≡ (notes_of tokens).token at → e ≡ noted (notes_of tokens) (at + 1 + 1) form → key ≡ noted_key (notes_of tokens) (at + 1 + 1 + size form + 1) k
     → value ≡ noted_target (notes_of tokens) (at + 1 + 1 + size form + 1 + size_key k) v → at + 1 + 1 + size form + 1 + size_key k + size_target v + 1 ≡ place

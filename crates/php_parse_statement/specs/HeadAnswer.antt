@@ -16,7 +16,7 @@ use Rattle.php_ast.specs.statement.View.{optional, target_view, values_view}
 use Rattle.php_ast.specs.statement.Placed.{size_key, size_target, noted_key, noted_target}
 use Rattle.php_grammar.specs.expression.Machine.{Nothing, Form}
 use Rattle.php_grammar.specs.statement.Role.{left_paren}
-use Rattle.php_grammar.specs.statement.Forms.{for_loop, foreach_loop, Values, of_starts, as_walked, Around, ExpressionPlace, StatementState, due, due_value, past_loop}
+use Rattle.php_grammar.specs.statement.Forms.{for_loop, foreach_loop, Values, of_starts, as_walked, Around, ExpressionPlace, StatementState, due, due_value, past_as, past_loop}
 use Rattle.php_grammar.specs.statement.Machine.{expected, target_step, values_end, advance_statement}
 use Rattle.php_grammar.specs.statement.Depth.{statement_depth, place_depth, values_depth, statement_depth_at}
 use Rattle.php_grammar.specs.statement.Reading.{halt_statement}
@@ -24,6 +24,7 @@ use Rattle.php_reader.specs.declared.reader.Reader.{Reader}
 use Rattle.php_reader.specs.declared.fail.Stop.{Stop}
 use Rattle.php_reader.specs.Seen.{rest}
 use Rattle.php_parse_statement.specs.declared.read.Entry.{Entry}
+use Rattle.php_parse_statement.specs.declared.read.Turn.{Turn}
 use Rattle.php_parse_statement.specs.Walk.{short, outcome, walk_statement, walk_behind, Leads}
 use Rattle.php_parse_statement.specs.Answer.{Fails}
 
@@ -50,6 +51,22 @@ abbrev pub AnswersTarget : Reader → ℕ → Result (Entry rust_target.Target) 
 AnswersTarget reader at (Ok r) = FoundTarget reader.room reader.tokens.now at r
 AnswersTarget reader at (Err e) = (ready : Around → StatementState) (place : Bool → ExpressionPlace) → IsTargetPlace ready place
     → Fails (λ o. 1 + statement_depth o) reader.room ready (rest reader.tokens.now at) reader.tokens.now at e
+
+-- ---- what stands behind the `as` of a `foreach`, up to its `)`
+
+pub record FoundTurn (room : ℕ) (tokens : List Token) (at : ℕ) (r : Turn) : Type 0 where
+  pub key : Option (Target Nothing)
+  pub value : Target Nothing
+  pub key_shown : optional target_view r.key ≡ noted_key (notes_of tokens) at key
+  pub value_shown : target_view r.value ≡ noted_target (notes_of tokens) (at + size_key key) value
+  pub sized : at + size_key key + size_target value + 1 ≡ r.next
+  pub reads : (walked : Form) → Leads statement_depth room (λ o. past_as walked o) (rest tokens at) (λ o. past_loop (foreach_loop walked key value) o) (rest tokens r.next)
+  pub ahead : at < r.next
+  pub within : r.next ≤ length tokens
+
+abbrev pub AnswersTurn : Reader → ℕ → Result Turn Stop → Type 0
+AnswersTurn reader at (Ok r) = FoundTurn reader.room reader.tokens.now at r
+AnswersTurn reader at (Err e) = (walked : Form) → Fails statement_depth reader.room (λ o. past_as walked o) (rest reader.tokens.now at) reader.tokens.now at e
 
 -- ---- the head of a `foreach`, from its `(` on
 

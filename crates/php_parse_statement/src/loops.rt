@@ -1,14 +1,14 @@
 // Loops.
 
 ghost use Rattle.std.specs.Prelude.{◌≡◌, ◌≢◌, ◌≤◌, length};
-ghost use Rattle.php_grammar.specs.statement.Role.{at_do, at_for, at_while, statement_beginning};
+ghost use Rattle.php_grammar.specs.statement.Role.{at_do, at_for, at_foreach, at_while, statement_beginning};
 ghost use Rattle.php_reader.specs.Seen.{Shows};
 ghost use Rattle.php_parse_statement.specs.Answer.{AnswersForm};
 ghost use Rattle.php_parse_statement.specs.FormAnswer.{AnswersLoopBody};
 ghost use Rattle.php_parse_statement.specs.declared.role.After.TheVariants.{Other};
 
-use crate::build::{do_while_statement, for_statement, while_statement};
-use crate::heads::{for_head, test};
+use crate::build::{do_while_statement, for_statement, foreach_statement, while_statement};
+use crate::heads::{for_head, foreach_head, test};
 use crate::inner::ReadsInner;
 use crate::look::{sees, sees_after};
 use crate::parser::Parser;
@@ -78,6 +78,19 @@ impl<'t, R: ReadsInner> Parser<'t, R> {
         Ok(ReadStatement {
             next: test.next + 1,
             statement: do_while_statement(spot(self.reader.tokens, at), inside, test.item),
+        })
+    }
+
+    /// `foreach (.. as ..) ..`
+    pub(crate) fn foreach(&self, at: usize) -> Result<ReadStatement, Stop>
+        requires { Shows statement_beginning self.now.reader.tokens.now at at_foreach }
+        ensures { AnswersForm self.now.reader at result }
+    {
+        let head = foreach_head(&self.reader, at + 1)?;
+        let body = self.loop_body(head.next, After::EndForeach)?;
+        Ok(ReadStatement {
+            statement: foreach_statement(spot(self.reader.tokens, at), head.item, body.item),
+            next: body.next,
         })
     }
 

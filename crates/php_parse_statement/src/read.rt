@@ -3,7 +3,7 @@
 ghost use Rattle.std.specs.Prelude.{◌≡◌};
 ghost use Rattle.php_reader.specs.declared.fail.Stop.TheVariants.{Syntax};
 
-use php_ast::{ElseIf, Expr, Stmt};
+use php_ast::{ElseIf, Expr, Stmt, Target};
 use php_parse_body::Read;
 use php_reader::Stop;
 use sqlite_items::Items;
@@ -26,6 +26,14 @@ pub(crate) struct Listed<T> {
 #[derive(Drop)]
 pub(crate) struct Entry<T> {
     pub(crate) item: T,
+    pub(crate) next: usize,
+}
+
+/// What takes the key, if anything, and the value at each turn of a `foreach`; and the place behind them.
+#[derive(Drop)]
+pub(crate) struct Turn {
+    pub(crate) key: Option<Target>,
+    pub(crate) value: Target,
     pub(crate) next: usize,
 }
 
@@ -60,6 +68,20 @@ pub(crate) fn discard(_values: Items<Expr>, stop: Stop) -> Stop
 
 /// Likewise of statements.
 pub(crate) fn forget(_statements: Items<Stmt>, stop: Stop) -> Stop
+    ensures { result ≡ stop }
+{
+    stop
+}
+
+/// A target is not followed by what must stand behind it.
+pub(crate) fn unended(read: Entry<Target>) -> Stop
+    ensures { result ≡ Syntax read.next }
+{
+    Stop::Syntax(read.next)
+}
+
+/// Lets go of a target that was read before a failure.
+pub(crate) fn let_go(_read: Entry<Target>, stop: Stop) -> Stop
     ensures { result ≡ stop }
 {
     stop
