@@ -11,18 +11,12 @@ use Rattle.php_grammar.specs.Run.{either, if_some, ReadingOf, reading, if_whole,
 use Rattle.php_grammar.specs.TooDeep.{taken, depths_taken, depth_inside}
 use Rattle.php_grammar.proofs.expression.LawProofs.{halt_unread, reads_back, nesting_agrees}
 use Rattle.php_grammar.proofs.Inside.{Reader, whole_here}
-use Rattle.php_grammar.proofs.Machines.{Halts, Holds, IsSome, whole_in}
+use Rattle.php_grammar.proofs.Machines.{Halts, Holds, IsSome, whole_in, same_head, same_tail}
 
 -- the depths, so much deeper, and others behind them
 abbrev pub shifted : ℕ → List ℕ → List ℕ → List ℕ
 shifted k [] w = w
 shifted k (n ∷ ns) w = (n + k) ∷ shifted k ns w
-
-same_head : (x t : Symbol) (w v : List Symbol) → x ∷ w ≡ t ∷ v → x ≡ t
-same_head x t w v h = cc
-
-same_tail : (x t : Symbol) (w v : List Symbol) → x ∷ w ≡ t ∷ v → w ≡ v
-same_tail x t w v h = cc
 
 -- ---- an expression inside
 

@@ -8,10 +8,11 @@ use Rattle.php_grammar.specs.expression.Machine.{Form, instance_of_open, OpenFor
 use Rattle.php_grammar.specs.expression.Laws.{EndsBefore}
 use Rattle.php_grammar.specs.Run.{either, if_some, ReadingOf, if_nothing, or_halted, run_of, whole_before, through_expression}
 use Rattle.php_grammar.proofs.expression.LawProofs.{halt_unread, reads_back}
+use Rattle.php_grammar.proofs.Machines.{same_head, same_tail}
 
 -- ---- what halts in front of a symbol doesn't look behind it
 
-record Alike (a b : Reading) : Type 0 where
+pub record Alike (a b : Reading) : Type 0 where
   pub tree : a.tree ≡ b.tree
   pub missing : a.missing ≡ b.missing
 
@@ -24,11 +25,11 @@ yield_alike : (b : Bool) (s : OpenForms) (v w : List Symbol) → Alike (halt_yie
 yield_alike true s v w = record { tree = refl; missing = refl }
 yield_alike false s v w = record { tree = refl; missing = refl }
 
-last_alike : (t : Symbol) (v missing : List Symbol) → is_last (t ∷ v) missing ≡ is_last (t ∷ []) missing
+pub last_alike : (t : Symbol) (v missing : List Symbol) → is_last (t ∷ v) missing ≡ is_last (t ∷ []) missing
 last_alike t v [] = refl
 last_alike t v (x ∷ xs) = refl
 
-halts_alike : (m : State) (t : Symbol) (v : List Symbol) → Alike (halt m (t ∷ v)) (halt m (t ∷ []))
+pub halts_alike : (m : State) (t : Symbol) (v : List Symbol) → Alike (halt m (t ∷ v)) (halt m (t ∷ []))
 halts_alike (past_static s) t v = static_alike s (t ∷ v) (t ∷ [])
 halts_alike (past_yield s) t v =
     subst (λ b. Alike (halt_yield b s (t ∷ v)) (halt_yield (is_last (t ∷ []) (missing_end s)) s (t ∷ []))) (sym (last_alike t v (missing_end s)))
@@ -50,12 +51,6 @@ whole_here m t v e h =
     whole_if (halt m (t ∷ [])).missing (halt m (t ∷ [])).tree e (sym same.missing ∙ ap (λ r. r.missing) h) (sym same.tree ∙ ap (λ r. r.tree) h)
 
 -- ---- an expression inside
-
-same_head : (x t : Symbol) (w v : List Symbol) → x ∷ w ≡ t ∷ v → x ≡ t
-same_head x t w v h = cc
-
-same_tail : (x t : Symbol) (w v : List Symbol) → x ∷ w ≡ t ∷ v → w ≡ v
-same_tail x t w v h = cc
 
 -- how a machine reads an expression: the states in which it does so, and what it does with the expression before a symbol
 pub record Reader (M : Type 0) (step : M → Symbol → Option M) : Type 0 where

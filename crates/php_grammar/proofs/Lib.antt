@@ -1,6 +1,6 @@
 pub mod expression
 pub mod declaration
 pub mod statement
-mod Inside
-mod Machines
-mod Deepened
+pub mod Inside
+pub mod Machines
+pub mod Deepened

@@ -18,10 +18,10 @@ pub whole_in : {M A : Type 0} (stop : M → List Symbol → ReadingOf A) (halts 
 whole_in stop halts m w a v h =
     whole_if (stop m []).missing (stop m []).tree a (sym (halts.missing m w) ∙ ap (λ r. r.missing) h) (sym (halts.tree m w) ∙ ap (λ r. r.tree) h)
 
-same_head : (x t : Symbol) (w v : List Symbol) → x ∷ w ≡ t ∷ v → x ≡ t
+pub same_head : (x t : Symbol) (w v : List Symbol) → x ∷ w ≡ t ∷ v → x ≡ t
 same_head x t w v h = cc
 
-same_tail : (x t : Symbol) (w v : List Symbol) → x ∷ w ≡ t ∷ v → w ≡ v
+pub same_tail : (x t : Symbol) (w v : List Symbol) → x ∷ w ≡ t ∷ v → w ≡ v
 same_tail x t w v h = cc
 
 -- ---- a machine that goes on behind the inner one

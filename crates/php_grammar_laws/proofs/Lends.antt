@@ -4,8 +4,9 @@ use Rattle.std.specs.Prelude.{nat_lt}
 use Rattle.php_ast.specs.Symbol.{Symbol}
 use Rattle.php_grammar.specs.Run.{either, if_some, ReadingOf, reading, if_nothing, if_whole, whole_before}
 use Rattle.php_grammar.specs.TooDeep.{depth_inside}
-use Rattle.php_grammar.specs.expression.Machine.{instance_of_open, OpenForms, State, past_static, past_yield, expects, missing_end, is_last, halt_static, halt_yield}
+use Rattle.php_grammar.specs.expression.Machine.{State, halt}
 use Rattle.php_grammar_laws.specs.Walks.{OutcomeOf, whole, short, outcome_by, outcome, stepped, walk_of, halt_expression, taken_on, past, resumed}
+use Rattle.php_grammar.proofs.Inside.{Alike, halts_alike}
 use Rattle.php_grammar_laws.proofs.Stops.{LeavesUnread}
 
 -- ---- the law
@@ -22,7 +23,7 @@ pub record Lends {M A N B : Type 0} (inner : M → Symbol → Option M) (nested 
 abbrev behind : {A N B : Type 0} → (N → Symbol → Option N) → (N → Symbol → ℕ) → (N → List Symbol → ReadingOf B) → (A → Symbol → Option N) → ℕ → (A → List Symbol → OutcomeOf B) → A → List Symbol → OutcomeOf B
 behind step depth stop ended n stuck a = past (ended a) (walk_of step depth stop n) (stuck a)
 
-deeper_by : (b : Bool) (n k d : ℕ) → nat_lt n d ≡ b → nat_lt (n + k) (d + k) ≡ b
+pub deeper_by : (b : Bool) (n k d : ℕ) → nat_lt n d ≡ b → nat_lt (n + k) (d + k) ≡ b
 deeper_by true n k d h = lt-ltb (n + k) (d + k) (omega (arith, ltb-true n d h))
 deeper_by false n k d h = le-ltb (n + k) (d + k) (omega (arith, ltb-false n d h))
 
@@ -109,22 +110,7 @@ stops_whole f (t ∷ missing) a u w is = ap short (sym is)
 
 -- ---- whole in front of a symbol, whatever stands behind that
 
-static_alike : (s : OpenForms) (t : Symbol) (v : List Symbol) → if_nothing (halt_static s (t ∷ v)).missing (halt_static s (t ∷ v)).tree ≡ if_nothing (halt_static s (t ∷ [])).missing (halt_static s (t ∷ [])).tree
-static_alike [] t v = refl
-static_alike (instance_of_open l ∷ s) t v = refl
-static_alike (f ∷ s) t v = refl
-
-last_alike : (t : Symbol) (v missing : List Symbol) → is_last (t ∷ v) missing ≡ is_last (t ∷ []) missing
-last_alike t v [] = refl
-last_alike t v (x ∷ xs) = refl
-
-yield_alike : (b : Bool) (s : OpenForms) (t : Symbol) (v : List Symbol) → if_nothing (halt_yield b s (t ∷ v)).missing (halt_yield b s (t ∷ v)).tree ≡ if_nothing (halt_yield b s (t ∷ [])).missing (halt_yield b s (t ∷ [])).tree
-yield_alike true s t v = refl
-yield_alike false s t v = refl
-
 pub whole_alike : (m : State) (t : Symbol) (v : List Symbol) → if_whole (halt_expression m (t ∷ v)) ≡ whole_before m t
-whole_alike (past_static s) t v = static_alike s t v
-whole_alike (past_yield s) t v =
-    ap (λ b. if_nothing (halt_yield b s (t ∷ v)).missing (halt_yield b s (t ∷ v)).tree) (last_alike t v (missing_end s)) ∙ yield_alike (is_last (t ∷ []) (missing_end s)) s t v
-whole_alike (expects s) t v = refl
-whole_alike _ t v = refl
+whole_alike m t v =
+    let same : Alike (halt m (t ∷ v)) (halt m (t ∷ [])) = halts_alike m t v in
+    ap (λ e. if_nothing (halt m (t ∷ v)).missing e) same.tree ∙ ap (λ u. if_nothing u (halt m (t ∷ [])).tree) same.missing

@@ -1,12 +1,12 @@
-mod Stops
-mod Appends
-mod Wholes
-mod Begins
-mod Says
-mod statement
-mod declaration
-mod Lends
-mod Instances
-mod Ends
-mod Knowns
+pub mod Stops
+pub mod Appends
+pub mod Wholes
+pub mod Begins
+pub mod Says
+pub mod statement
+pub mod declaration
+pub mod Lends
+pub mod Instances
+pub mod Ends
+pub mod Knowns
 mod WalkExamples

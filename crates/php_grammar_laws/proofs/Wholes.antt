@@ -8,7 +8,8 @@ use Rattle.php_ast.specs.expression.Tree.{exiting, by_value, exit, static_member
 use Rattle.php_ast.specs.expression.Spelling.{spell}
 use Rattle.php_ast.specs.Power.{binary_row}
 use Rattle.php_ast.specs.expression.Proper.{Proper, ends_bare, takes_arrow, right}
-use Rattle.php_grammar.specs.expression.Role.{paren, bracket, brace, comma as closing_comma, double_arrow, colon, semicolon, part_end, Continuation, draws, closes, neither, continuation, is_arrow, ends_yield, is_paren}
+use Rattle.php_grammar.specs.declared.closer.Closer.TheVariants as ender
+use Rattle.php_grammar.specs.expression.Role.{Continuation, draws, closes, neither, continuation, is_arrow, ends_yield, is_paren}
 use Rattle.php_grammar.specs.expression.Machine.{Nothing, Form, of_list, OpenForm, enclosed_open, items_open, index_open, computed_open, step_open, part_open, then_open, else_open, short_open, prefix_open, binary_open, instance_of_open, assign_open, yield_open, yield_value_open, OpenForms, State, expects, holds, holds_call, due_enclosed, due_listed, past_items, past_value, past_exit, past_exit_paren, past_static, past_static_colons, past_template, past_index, past_arrow, past_new, past_class, past_step, past_question, past_assign, past_yield, any, any_member, ends_at, completed, completed_all, missing_end, is_call_at, seated, pick, goes_on, class_step, static_step, advance, Reading, is_last, halt_yield, halt_static, halt, read_from}
 use Rattle.php_grammar.specs.Run.{either, if_some, if_nothing, whole_before, through_expression}
 use Rattle.php_grammar.proofs.expression.Sound.{IsSoundState, symbols_so_far}
@@ -112,10 +113,10 @@ right_some _ = omega arith
 
 -- Where nothing is missing and an `=>` can't go on, no `yield` at the end would take it.
 abbrev NoArrow : OpenForms → Form → Type 0
-NoArrow s e = missing_end s ≡ [] → takes_arrow e ≡ false → goes_on e s (closes double_arrow) ≡ None → takes_arrow (completed_all s e) ≡ false
+NoArrow s e = missing_end s ≡ [] → takes_arrow e ≡ false → goes_on e s (closes ender.DoubleArrow) ≡ None → takes_arrow (completed_all s e) ≡ false
 
-released_on : (f : OpenForm) (s : OpenForms) (e : Form) → 0 < ends_at true f → goes_on e (f ∷ s) (closes double_arrow) ≡ None → goes_on (completed f e) s (closes double_arrow) ≡ None
-released_on f s e low h = sym (released_step f s e (closes double_arrow) low) ∙ h
+released_on : (f : OpenForm) (s : OpenForms) (e : Form) → 0 < ends_at true f → goes_on e (f ∷ s) (closes ender.DoubleArrow) ≡ None → goes_on (completed f e) s (closes ender.DoubleArrow) ≡ None
+released_on f s e low h = sym (released_step f s e (closes ender.DoubleArrow) low) ∙ h
 
 all_no_arrow : (s : OpenForms) (e : Form) → NoArrow s e
 all_no_arrow [] e none free h = free
@@ -135,9 +136,9 @@ all_no_arrow (assign_open how l ∷ s) e none free h = all_no_arrow s (assign ho
 all_no_arrow (yield_open ∷ s) e none free h = cc
 all_no_arrow (yield_value_open k ∷ s) e none free h = all_no_arrow s (yield_pair tt k e) none free (released_on (yield_value_open k) s e (omega arith) h)
 
-arrow_is : (x : Continuation) → is_arrow x ≡ true → x ≡ closes double_arrow
+arrow_is : (x : Continuation) → is_arrow x ≡ true → x ≡ closes ender.DoubleArrow
 arrow_is (draws d) h = cc
-arrow_is (closes double_arrow) h = refl
+arrow_is (closes ender.DoubleArrow) h = refl
 arrow_is (closes c) h = cc
 arrow_is neither h = cc
 
@@ -150,28 +151,28 @@ picked_none true (Some x) p is h = cc
 picked_none true None p is h = absurd is
 picked_none false o p is h = h
 
-class_alone : (class : Class Nothing) (s : OpenForms) → class_step class s (closes double_arrow) ≡ None → goes_on (new tt class) s (closes double_arrow) ≡ None
+class_alone : (class : Class Nothing) (s : OpenForms) → class_step class s (closes ender.DoubleArrow) ≡ None → goes_on (new tt class) s (closes ender.DoubleArrow) ≡ None
 class_alone (class_name spot text) s h = h
 class_alone (class_static spot) s h = h
 class_alone (class_found steps) s h = h
 
 yield_bare : (x : Continuation) → ends_yield x ≡ true → is_arrow x ≡ false
 yield_bare (draws d) e = refl
-yield_bare (closes double_arrow) e = cc
-yield_bare (closes paren) e = refl
-yield_bare (closes bracket) e = refl
-yield_bare (closes brace) e = refl
-yield_bare (closes closing_comma) e = refl
-yield_bare (closes colon) e = refl
-yield_bare (closes semicolon) e = refl
-yield_bare (closes part_end) e = refl
+yield_bare (closes ender.DoubleArrow) e = cc
+yield_bare (closes ender.Paren) e = refl
+yield_bare (closes ender.Bracket) e = refl
+yield_bare (closes ender.Brace) e = refl
+yield_bare (closes ender.Comma) e = refl
+yield_bare (closes ender.Colon) e = refl
+yield_bare (closes ender.Semicolon) e = refl
+yield_bare (closes ender.EndPart) e = refl
 yield_bare neither e = refl
 
 last_ends : (t : Symbol) (v : List Symbol) → is_last (t ∷ []) v ≡ true → ends_yield (continuation t) ≡ true
 last_ends t [] h = h
 last_ends t (x ∷ v) h = cc
 
-static_no_arrow : (s : OpenForms) (t : Symbol) → (halt_static s (t ∷ [])).missing ≡ [] → static_step s (closes double_arrow) ≡ None → takes_arrow (halt_static s (t ∷ [])).tree ≡ false
+static_no_arrow : (s : OpenForms) (t : Symbol) → (halt_static s (t ∷ [])).missing ≡ [] → static_step s (closes ender.DoubleArrow) ≡ None → takes_arrow (halt_static s (t ∷ [])).tree ≡ false
 static_no_arrow [] t none h = cc
 static_no_arrow (instance_of_open l ∷ s) t none h = all_no_arrow s (instance_of_static l tt) none refl h
 static_no_arrow (f ∷ s) t none h = cc

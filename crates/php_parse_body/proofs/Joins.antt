@@ -18,10 +18,11 @@ use Rattle.php_reader.specs.declared.fail.Stop.{Stop}
 use Rattle.php_reader.specs.declared.fail.Stop.TheVariants.{Syntax, TooDeep, NoMemory}
 use Rattle.php_parse_operands.specs.Answer.{Spans, Fails}
 use Rattle.php_ast.specs.expression.Nesting.{right_depth}
-use Rattle.php_ast.specs.Power.{binary_row}
+use Rattle.php_ast.specs.Power.{binary_row, choice_row, instance_of_row}
 use Rattle.php_ast.specs.expression.Proper.{operand_level, ends, right, is_call, free, top, call_strength}
 use Rattle.php_ast.specs.expression.Tree.{prefix, count, binary, instance_of, instance_of_static, choice, short_choice, assign, by_value, by_reference, yield_nothing, yield_value, yield_pair, colons}
-use Rattle.php_grammar.specs.expression.Role as role
+use Rattle.php_grammar.specs.declared.closer.Closer.{Closer}
+use Rattle.php_grammar.specs.declared.closer.Closer.TheVariants as ender
 use Rattle.php_grammar.specs.expression.Role.{Beginning, at_nothing, at_static, at_yield, at_prefix, beginning, Draw, by_binary, by_instance_of, by_choice, by_assign, by_count, draw_strength, Continuation, closes, draws, neither, continuation, strength_of, is_arrow, ends_yield, by_select, is_ampersand, is_colon}
 use Rattle.php_grammar.specs.expression.Machine.{Form, OpenForm, prefix_open, binary_open, assign_open, else_open, short_open, then_open, instance_of_open, yield_open, yield_value_open, OpenForms, State, expects, holds, past_assign, past_question, past_yield, past_static, least_power_at, least_power, ends_at, completed, pick, allowed_if, started, start, after, after_by, closed, goes_on}
 use Rattle.php_grammar.specs.expression.Depth.{deepened, depth, depth_behind}
@@ -109,19 +110,19 @@ yield_ends_low (closes c) h = omega arith
 yield_ends_low (draws d) h = cc
 yield_ends_low neither h = cc
 
-pub arrow_is : (x : Continuation) → is_arrow x ≡ true → x ≡ closes role.double_arrow
-arrow_is (closes role.double_arrow) h = refl
-arrow_is (closes role.paren) h = cc
-arrow_is (closes role.bracket) h = cc
-arrow_is (closes role.brace) h = cc
-arrow_is (closes role.comma) h = cc
-arrow_is (closes role.colon) h = cc
-arrow_is (closes role.semicolon) h = cc
-arrow_is (closes role.part_end) h = cc
+pub arrow_is : (x : Continuation) → is_arrow x ≡ true → x ≡ closes ender.DoubleArrow
+arrow_is (closes ender.DoubleArrow) h = refl
+arrow_is (closes ender.Paren) h = cc
+arrow_is (closes ender.Bracket) h = cc
+arrow_is (closes ender.Brace) h = cc
+arrow_is (closes ender.Comma) h = cc
+arrow_is (closes ender.Colon) h = cc
+arrow_is (closes ender.Semicolon) h = cc
+arrow_is (closes ender.EndPart) h = cc
 arrow_is (draws d) h = cc
 arrow_is neither h = cc
 
-pub pair_opens : {room : ℕ} {x w : List Symbol} (t : Symbol) (k : Form) → x ≡ t ∷ w → continuation t ≡ closes role.double_arrow → 2 ≤ room
+pub pair_opens : {room : ℕ} {x w : List Symbol} (t : Symbol) (k : Form) → x ≡ t ∷ w → continuation t ≡ closes ender.DoubleArrow → 2 ≤ room
     → Leads room free (λ s. holds k (yield_open ∷ s)) x (λ s. expects (yield_value_open k ∷ s)) w
 pair_opens t k is arrow deep =
     move t is (λ s near. ap (goes_on k (yield_open ∷ s)) arrow) (λ n s near at. omega (arith, ap (depth_behind (yield_open ∷ s)) arrow))
@@ -140,40 +141,40 @@ binary_opens t op f is drawing near low deep = draw t (by_binary op) f is drawin
 
 -- ---- `? :`
 
-pub short_opens : {room least : ℕ} {x y w : List Symbol} (t u : Symbol) (f : Form) → x ≡ t ∷ y → continuation t ≡ draws by_choice → least ≤ 10 → 10 < ends f → y ≡ u ∷ w → is_colon u ≡ true → 1 ≤ room
+pub short_opens : {room least : ℕ} {x y w : List Symbol} (t u : Symbol) (f : Form) → x ≡ t ∷ y → continuation t ≡ draws by_choice → least ≤ choice_row.power → choice_row.power < ends f → y ≡ u ∷ w → is_colon u ≡ true → 1 ≤ room
     → Leads room least (λ s. holds f s) x (λ s. expects (short_open f ∷ s)) w
 short_opens t u f is drawing near low more colon deep =
     leads (λ s. past_question f s) (draw t by_choice f is drawing near low deep)
     (move u more (λ s g. ap (λ b. pick b (Some (expects (short_open f ∷ s))) (start (then_open f ∷ s) u)) colon) (λ n s g at. omega (arith, ap (λ b. pick b (depth s) (1 + depth s)) colon)))
 
-pub then_opens : {room least : ℕ} {x w : List Symbol} (t : Symbol) (f : Form) → x ≡ t ∷ w → continuation t ≡ draws by_choice → least ≤ 10 → 10 < ends f → test is_colon w ≡ false → 1 ≤ room
+pub then_opens : {room least : ℕ} {x w : List Symbol} (t : Symbol) (f : Form) → x ≡ t ∷ w → continuation t ≡ draws by_choice → least ≤ choice_row.power → choice_row.power < ends f → test is_colon w ≡ false → 1 ≤ room
     → Leads room least (λ s. holds f s) x (λ s. expects (then_open f ∷ s)) w
 then_opens t f is drawing near low filled deep = leads (λ s. past_question f s) (draw t by_choice f is drawing near low deep) (question_enters f filled)
 
-shut_then : (c : Form) (k : role.Closer) (e : Form) (s : OpenForms) → k ≢ role.colon → closed k e (then_open c) s ≡ None
-shut_then c role.colon e s h = absurd (h refl)
+shut_then : (c : Form) (k : Closer) (e : Form) (s : OpenForms) → k ≢ ender.Colon → closed k e (then_open c) s ≡ None
+shut_then c ender.Colon e s h = absurd (h refl)
 shut_then c _ e s h = refl
 
 pub then_unclosed : {room least : ℕ} {from : OpenForms → State} {x w y : List Symbol} (f e : Form) → least ≤ free → Leads room least from x (λ s. expects (then_open f ∷ s)) w
-    → Leads (room - 1) LEAST_POWER (λ s. expects s) w (λ s. holds e s) y → 1 ≤ room → Rests LEAST_POWER (ends e) y → head_continuation y ≢ closes role.colon
+    → Leads (room - 1) LEAST_POWER (λ s. expects s) w (λ s. holds e s) y → 1 ≤ room → Rests LEAST_POWER (ends e) y → head_continuation y ≢ closes ender.Colon
     → Halts false room least from x y
 then_unclosed {room} {least} {from} {x} {w} {y} f e low opens r deep rests shut =
     leads_halts (λ s. expects (then_open f ∷ s)) opens
     (leads_halts (λ s. holds e (then_open f ∷ s)) (inside (room - 1) LEAST_POWER (then_open f) (inl refl) (omega arith) (λ d. omega arith) r)
     (unclosed_halts e (then_open f) y refl rests (λ k s h. shut_then f k e s (λ p. shut (h ∙ ap closes p)))))
 
-pub else_begins : {room least : ℕ} {y v : List Symbol} (f e : Form) (u : Symbol) → y ≡ u ∷ v → continuation u ≡ closes role.colon → 2 ≤ room
+pub else_begins : {room least : ℕ} {y v : List Symbol} (f e : Form) (u : Symbol) → y ≡ u ∷ v → continuation u ≡ closes ender.Colon → 2 ≤ room
     → Leads room least (λ s. holds e (then_open f ∷ s)) y (λ s. expects (else_open f e ∷ s)) v
 else_begins f e u more colon deep =
-    close u role.colon e (then_open f) (λ s. expects (else_open f e ∷ s)) more colon refl (λ s. refl) (λ d. omega arith) deep
+    close u ender.Colon e (then_open f) (λ s. expects (else_open f e ∷ s)) more colon refl (λ s. refl) (λ d. omega arith) deep
 
 -- ---- `instanceof`
 
-pub instance_opens : {room least : ℕ} {x w : List Symbol} (t : Symbol) (f : Form) → x ≡ t ∷ w → continuation t ≡ draws by_instance_of → least ≤ 36 → 36 < ends f → 1 ≤ room
+pub instance_opens : {room least : ℕ} {x w : List Symbol} (t : Symbol) (f : Form) → x ≡ t ∷ w → continuation t ≡ draws by_instance_of → least ≤ instance_of_row.power → instance_of_row.power < ends f → 1 ≤ room
     → Leads room least (λ s. holds f s) x (λ s. expects (instance_of_open f ∷ s)) w
 instance_opens t f is drawing near low deep = draw t by_instance_of f is drawing near low deep
 
-operand_in : {room least : ℕ} {w v : List Symbol} (f e : Form) → least ≤ 36 → Leads room top (λ s. expects s) w (λ s. after e s) v
+operand_in : {room least : ℕ} {w v : List Symbol} (f e : Form) → least ≤ instance_of_row.power → Leads room top (λ s. expects s) w (λ s. after e s) v
     → Leads room least (λ s. expects (instance_of_open f ∷ s)) w (λ s. after e (instance_of_open f ∷ s)) v
 operand_in f e near r = record { same = λ n s whole g is. r.same n (instance_of_open f ∷ s) (inr (omega arith), whole) (omega arith) (omega arith) }
 
@@ -186,7 +187,7 @@ call_low : (n : ℕ) (x : Continuation) → (strength_of x < operand_level) ⊎ 
 call_low n x (inl h) is = omega arith
 call_low n x (inr h) is = absurd (omega (arith, strength_most x))
 
-pub instance_reads : {room least : ℕ} {x w v : List Symbol} (f e : Form) → least ≤ 36 → Leads room least (λ s. holds f s) x (λ s. expects (instance_of_open f ∷ s)) w
+pub instance_reads : {room least : ℕ} {x w v : List Symbol} (f e : Form) → least ≤ instance_of_row.power → Leads room least (λ s. holds f s) x (λ s. expects (instance_of_open f ∷ s)) w
     → Leads room top (λ s. expects s) w (λ s. after e s) v → is_call e ≡ false → Rests operand_level (ends e) v
     → Leads room least (λ s. holds f s) x (λ s. holds (instance_of f e) s) v
 instance_reads {room} {least} {x} {w} {v} f e near opens r no_call rests =
@@ -195,7 +196,7 @@ instance_reads {room} {least} {x} {w} {v} f e near opens r no_call rests =
     (leads (λ s. holds e (instance_of_open f ∷ s)) (record { same = λ n s whole g is. ap (λ b. walk n (after_by b e (instance_of_open f ∷ s)) v) no_call })
     (finish_instance f e v (omega arith) rests)))
 
-pub instance_halts : {room least : ℕ} {x w v : List Symbol} (f e : Form) → least ≤ 36 → Leads room least (λ s. holds f s) x (λ s. expects (instance_of_open f ∷ s)) w
+pub instance_halts : {room least : ℕ} {x w v : List Symbol} (f e : Form) → least ≤ instance_of_row.power → Leads room least (λ s. holds f s) x (λ s. expects (instance_of_open f ∷ s)) w
     → Leads room top (λ s. expects s) w (λ s. after e s) v → is_call e ≡ true → ends e ≡ top → Rests operand_level (ends e) v
     → Halts false room least (λ s. holds f s) x v
 instance_halts {room} {least} {x} {w} {v} f e near opens r call broad rests =
@@ -203,7 +204,7 @@ instance_halts {room} {least} {x} {w} {v} f e near opens r call broad rests =
     (leads_halts (λ s. after e (instance_of_open f ∷ s)) (operand_in f e near r)
     (call_halts f e v call (call_low (ends e) (head_continuation v) rests broad)))
 
-pub static_instance_reads : {room least : ℕ} {x y w : List Symbol} (f : Form) (u : Symbol) → least ≤ 36 → Leads room least (λ s. holds f s) x (λ s. expects (instance_of_open f ∷ s)) y
+pub static_instance_reads : {room least : ℕ} {x y w : List Symbol} (f : Form) (u : Symbol) → least ≤ instance_of_row.power → Leads room least (λ s. holds f s) x (λ s. expects (instance_of_open f ∷ s)) y
     → y ≡ u ∷ w → beginning u ≡ at_static → head_continuation w ≢ draws (by_select colons) → 1 ≤ room
     → Leads room least (λ s. holds f s) x (λ s. holds (instance_of_static f tt) s) w
 static_instance_reads {room} {least} {x} {y} {w} f u near opens is begins alone deep =
@@ -211,7 +212,7 @@ static_instance_reads {room} {least} {x} {y} {w} f u near opens is begins alone 
     (leads (λ s. past_static (instance_of_open f ∷ s)) (move u is (λ s g. ap (λ b. started b (instance_of_open f ∷ s)) begins) (λ n s g at. omega arith))
     (static_ends f alone))
 
-pub instance_fails : {room least : ℕ} {x w : List Symbol} (tokens : List Token) (at behind : ℕ) (f : Form) (e : Stop) → at ≤ behind → least ≤ 36 → Leads room least (λ s. holds f s) x (λ s. expects (instance_of_open f ∷ s)) w
+pub instance_fails : {room least : ℕ} {x w : List Symbol} (tokens : List Token) (at behind : ℕ) (f : Form) (e : Stop) → at ≤ behind → least ≤ instance_of_row.power → Leads room least (λ s. holds f s) x (λ s. expects (instance_of_open f ∷ s)) w
     → Fails room top (λ s. expects s) w tokens behind e → Fails room least (λ s. holds f s) x tokens at e
 instance_fails tokens at behind f (Syntax k) ahead near opens r = record {
   halts = leads_halts (λ s. expects (instance_of_open f ∷ s)) opens (record { same = λ n s whole g is. r.halts.same n (instance_of_open f ∷ s) (inr (omega arith), whole) (omega arith) (omega arith) });
@@ -225,7 +226,7 @@ instance_fails tokens at behind f (TooDeep k) ahead near opens r = record {
 }
 instance_fails tokens at behind f NoMemory ahead near opens r = tt
 
-pub instance_rests : (e : Form) (v : List Symbol) → ends e ≡ 36 → Rests free (ends e) v
+pub instance_rests : (e : Form) (v : List Symbol) → ends e ≡ instance_of_row.power → Rests free (ends e) v
 instance_rests e v is = instance_by (rests_same free v)
   where
     instance_by : Rests free free v → Rests free (ends e) v

@@ -11,7 +11,7 @@ use Rattle.php_ast.specs.expression.Tree.{Class, class_name, class_static, class
 use Rattle.php_ast.specs.expression.Spelling.{spell}
 use Rattle.php_ast.specs.expression.Proper.{Proper, ends, ends_bare}
 use Rattle.php_ast.specs.expression.Nesting.{nests}
-use Rattle.php_grammar.specs.expression.Role as role
+use Rattle.php_grammar.specs.declared.closer.Closer.TheVariants as ender
 use Rattle.php_grammar.specs.expression.Role.{Draw, draw_strength, Continuation, draws, closes, neither, continuation, strength_of, is_arrow, ends_yield}
 use Rattle.php_grammar.specs.expression.Machine.{Nothing, Form, OpenForm, enclosed_open, items_open, yield_open, instance_of_open, OpenForms, State, expects, holds, past_exit, past_static, past_class, past_yield, past_arrow, class_step, closed, advance, halt, Reading, read, read_from, or_halt, goes_on, released, opened_by, allowed_if, closes_in}
 use Rattle.php_grammar.specs.expression.Depth.{depth_at, depths_read, noting}
@@ -138,20 +138,20 @@ begun_nests n done to e more r h =
     ∙ r.counts (more ++ semicolon)
 
 -- no state goes on with `;`
-semicolon_closed : (e : Form) (f : OpenForm) (s : OpenForms) → closed role.semicolon e f s ≡ None
+semicolon_closed : (e : Form) (f : OpenForm) (s : OpenForms) → closed ender.Semicolon e f s ≡ None
 semicolon_closed e (enclosed_open enclosure) s = refl
 semicolon_closed e (items_open h items lead) s = refl
 semicolon_closed e yield_open s = refl
 semicolon_closed e _ s = refl
 
-semicolon_closes : (e : Form) (s : OpenForms) → closes_in role.semicolon e s ≡ None
+semicolon_closes : (e : Form) (s : OpenForms) → closes_in ender.Semicolon e s ≡ None
 semicolon_closes e [] = refl
 semicolon_closes e (f ∷ s) = semicolon_closed e f s
 
-semicolon_goes : (e : Form) (s : OpenForms) → goes_on e s (closes role.semicolon) ≡ None
+semicolon_goes : (e : Form) (s : OpenForms) → goes_on e s (closes ender.Semicolon) ≡ None
 semicolon_goes e s = semicolon_closes (released false 0 s e).tree (released false 0 s e).stack
 
-semicolon_class : (class : Class Nothing) (s : OpenForms) → class_step class s (closes role.semicolon) ≡ None
+semicolon_class : (class : Class Nothing) (s : OpenForms) → class_step class s (closes ender.Semicolon) ≡ None
 semicolon_class (class_found steps) s = semicolon_goes (new tt (class_found steps)) s
 semicolon_class (class_name spot text) s = semicolon_goes (new tt (class_name spot text)) s
 semicolon_class (class_static spot) s = semicolon_goes (new tt (class_static spot)) s
@@ -242,14 +242,14 @@ halt_missing (past_static (instance_of_open l ∷ s)) w h = h
 halt_missing _ w h = h
 
 yield_closes : (x : Continuation) → ends_yield x ≡ true → (strength_of x ≡ 0) × (is_arrow x ≡ false)
-yield_closes (closes role.paren) h = (refl, refl)
-yield_closes (closes role.bracket) h = (refl, refl)
-yield_closes (closes role.comma) h = (refl, refl)
-yield_closes (closes role.semicolon) h = (refl, refl)
-yield_closes (closes role.brace) h = absurd (cc)
-yield_closes (closes role.double_arrow) h = absurd (cc)
-yield_closes (closes role.colon) h = absurd (cc)
-yield_closes (closes role.part_end) h = absurd (cc)
+yield_closes (closes ender.Paren) h = (refl, refl)
+yield_closes (closes ender.Bracket) h = (refl, refl)
+yield_closes (closes ender.Comma) h = (refl, refl)
+yield_closes (closes ender.Semicolon) h = (refl, refl)
+yield_closes (closes ender.Brace) h = absurd (cc)
+yield_closes (closes ender.DoubleArrow) h = absurd (cc)
+yield_closes (closes ender.Colon) h = absurd (cc)
+yield_closes (closes ender.EndPart) h = absurd (cc)
 yield_closes (draws d) h = absurd (cc)
 yield_closes neither h = absurd (cc)
 

@@ -6,6 +6,7 @@ ghost use Rattle.php_ast.specs.expression.Tree.{colons};
 ghost use Rattle.php_ast.specs.expression.Nesting.{right_depth};
 ghost use Rattle.php_ast.specs.Power.{binary_row, choice_row, instance_of_row};
 ghost use Rattle.php_ast.specs.expression.Proper.{edge};
+ghost use Rattle.php_grammar.specs.declared.closer.Closer.TheVariants as ender;
 ghost use Rattle.php_grammar.specs.expression.Role as role;
 ghost use Rattle.php_grammar.specs.expression.Role.{beginning, closes, continuation, draws, draw_strength, is_colon};
 ghost use Rattle.php_parse_body.specs.Behind.{AnswersBehind};
@@ -19,12 +20,13 @@ use crate::pending::{Between, Onward, Pending, edge_of, right_of};
 use crate::prefixes::static_alone;
 use php_ast::{Binary, Grouping, row_of, row_of_instance_of};
 use php_build::build::{binary_expr, instance_of_expr, instance_of_static_expr};
+use php_grammar::Closer;
 use php_lex::Tokens;
 use php_parse_operands::{Parser, Read, ReadsInner};
 use php_reader::Stop;
 use php_reader::limit::LEAST_POWER;
 use php_reader::look::{closed_by, opening_at, sees_colon, spot};
-use php_reader::role::{Closer, Infix, Opening};
+use php_reader::role::{Infix, Opening};
 use sqlite_items::Boxed;
 use std::alloc::Global;
 
@@ -67,7 +69,7 @@ fn half_choice<R: ReadsInner>(
     middle: Read,
     least: u8,
 ) -> Result<Onward, Stop>
-    requires colon { Shows continuation parser.now.reader.tokens.now middle.next (closes role.colon) }
+    requires colon { Shows continuation parser.now.reader.tokens.now middle.next (closes ender.Colon) }
     requires near { least ≤ choice_row.power }
     ensures { 2 ≤ parser.now.reader.room → AnswersHalf left middle least parser.now.reader result }
 {

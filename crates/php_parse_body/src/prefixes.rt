@@ -5,6 +5,7 @@ ghost use Rattle.php_token.specs.Token.{Token, token_at};
 ghost use Rattle.php_ast.specs.expression.Tree.{colons};
 ghost use Rattle.php_ast.specs.Power.{assign_row, yield_power};
 ghost use Rattle.php_ast.specs.expression.Proper.{edge, free, right};
+ghost use Rattle.php_grammar.specs.declared.closer.Closer.TheVariants as ender;
 ghost use Rattle.php_grammar.specs.expression.Role as role;
 ghost use Rattle.php_grammar.specs.expression.Role.{beginning, closes, continuation, draws, ends_yield, is_ampersand};
 ghost use Rattle.php_ast.specs.declared.operator.Assign.TheVariants.{Plain};
@@ -20,12 +21,13 @@ use php_build::build::{
     assign_expr, assign_reference_expr, count_expr, prefix_expr, yield_nothing_expr,
     yield_pair_expr, yield_value_expr,
 };
+use php_grammar::Closer;
 use php_lex::Tokens;
 use php_parse_operands::{Operand, Parser, Read, ReadsInner};
 use php_reader::Stop;
 use php_reader::limit::{OPEN_COUNT, OPEN_YIELD};
 use php_reader::look::{closed_by, next_at, sees_ampersand, spot, start_at};
-use php_reader::role::{Closer, Next, Opening, Start, Tail};
+use php_reader::role::{Next, Opening, Start, Tail};
 use std::alloc::Global;
 
 /// Whether a token that does this is `::`.
@@ -196,7 +198,7 @@ fn changed_operand<R: ReadsInner>(
 
 /// `yield key => value`, from the `=>` on.
 fn yield_pair<R: ReadsInner>(parser: &Parser<R>, at: usize, key: Read) -> Result<Read, Stop>
-    requires arrow { Shows continuation parser.now.reader.tokens.now key.next (closes role.double_arrow) }
+    requires arrow { Shows continuation parser.now.reader.tokens.now key.next (closes ender.DoubleArrow) }
     requires start { at < length parser.now.reader.tokens.now }
     requires deep { 2 ≤ parser.now.reader.room }
     ensures { AnswersYield key parser.now.reader at result }

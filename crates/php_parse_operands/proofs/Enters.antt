@@ -4,7 +4,8 @@ use Rattle.std.specs.Prelude.{nat_lt}
 use Rattle.php_ast.specs.declared.operator.Assign.TheVariants as setting
 use Rattle.php_ast.specs.Symbol.{Symbol}
 use Rattle.php_ast.specs.expression.Tree.{Items, skip, plain, keyed, keyed_reference, reference, spread, Class, class_name, class_static, class_found, exiting, exit, exit_empty, append, new, instance_of_static, by_value, by_reference, thin, colons, yield_nothing}
-use Rattle.php_grammar.specs.expression.Role as role
+use Rattle.php_grammar.specs.declared.closer.Closer.{Closer}
+use Rattle.php_grammar.specs.declared.closer.Closer.TheVariants as ender
 use Rattle.php_grammar.specs.expression.Role.{Beginning, at_nothing, beginning, Continuation, draws, closes, neither, continuation, strength_of, ends_yield, by_call, by_index, by_select, Mark, refers, spreads, ends_item, begins, item_mark, is_ampersand, is_paren, is_right_paren, is_right_bracket, is_colon}
 use Rattle.php_grammar.specs.expression.Machine.{Form, Holder, is_array, is_arguments, has_paren, may_end, enclosed_open, items_open, index_open, then_open, assign_open, short_open, yield_open, instance_of_open, OpenForms, State, expects, holds, past_items, past_value, past_exit, past_exit_paren, past_index, past_question, past_assign, past_class, past_static, past_yield, goes_on, start, item_step, ended_by, class_step, static_step, allowed_if, pick, advance, halt, halt_yield, halt_whole, is_last, missing_end, completed_all, closed_with, ended_items, after}
 use Rattle.php_grammar.specs.expression.Depth.{depth, depth_at, depth_behind}
@@ -89,9 +90,9 @@ class_by x (class_found steps) s a b c = refl
 pub record NoMark (h : Holder) (items : Items (Unit {0})) (x : Mark) : Type 0 where
   pub no_reference : is_array h ≡ true → x ≢ refers
   pub no_spread : is_arguments h ≡ true → x ≢ spreads
-  pub no_comma : is_array h ≡ true → x ≢ ends_item role.comma
-  pub no_paren : has_paren h ≡ true → may_end h items ≡ true → x ≢ ends_item role.paren
-  pub no_bracket : has_paren h ≡ false → may_end h items ≡ true → x ≢ ends_item role.bracket
+  pub no_comma : is_array h ≡ true → x ≢ ends_item ender.Comma
+  pub no_paren : has_paren h ≡ true → may_end h items ≡ true → x ≢ ends_item ender.Paren
+  pub no_bracket : has_paren h ≡ false → may_end h items ≡ true → x ≢ ends_item ender.Bracket
 
 marked_off : (b : Bool) (m : State) → (b ≡ true → ⊥) → allowed_if b m ≡ None
 marked_off false m h = refl
@@ -107,14 +108,14 @@ dropped_off true c m h = refl
 dropped_off false false m h = refl
 dropped_off false true m h = absurd (h refl refl)
 
-ends_off : (c : role.Closer) (h : Holder) (items : Items (Unit {0})) (s : OpenForms) → NoMark h items (ends_item c) → ended_by c h items s ≡ None
-ends_off role.comma h items s g = marked_off (is_array h) (past_items h (skip items) s) (λ a. g.no_comma a refl)
-ends_off role.paren h items s g = picked_off (has_paren h) (may_end h items) (after (closed_with h (ended_items items)) s) (λ a b. g.no_paren a b refl)
-ends_off role.bracket h items s g = dropped_off (has_paren h) (may_end h items) (after (closed_with h (ended_items items)) s) (λ a b. g.no_bracket a b refl)
+ends_off : (c : Closer) (h : Holder) (items : Items (Unit {0})) (s : OpenForms) → NoMark h items (ends_item c) → ended_by c h items s ≡ None
+ends_off ender.Comma h items s g = marked_off (is_array h) (past_items h (skip items) s) (λ a. g.no_comma a refl)
+ends_off ender.Paren h items s g = picked_off (has_paren h) (may_end h items) (after (closed_with h (ended_items items)) s) (λ a b. g.no_paren a b refl)
+ends_off ender.Bracket h items s g = dropped_off (has_paren h) (may_end h items) (after (closed_with h (ended_items items)) s) (λ a b. g.no_bracket a b refl)
 ends_off _ h items s g = refl
 
-closer_starts : (c : role.Closer) (s : OpenForms) → start s (closer_symbol c) ≡ None
-closer_starts role.paren s = refl
+closer_starts : (c : Closer) (s : OpenForms) → start s (closer_symbol c) ≡ None
+closer_starts ender.Paren s = refl
 closer_starts _ s = refl
 
 items_by : (x : Mark) (t : Symbol) (h : Holder) (items : Items (Unit {0})) (s : OpenForms) → MarkSays x t → NoMark h items x → item_step x h items s t ≡ start (items_open h items plain ∷ s) t

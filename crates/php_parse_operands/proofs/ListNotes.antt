@@ -13,7 +13,7 @@ use Rattle.php_ast.specs.expression.Tree.{Listing}
 use Rattle.php_ast.specs.expression.Tree.{Tree, Items, none, and, skip, Lead, plain, listed, array}
 use Rattle.php_ast.specs.expression.View.{Note, view, item_more, items_from, argument_more, arguments_from, values_from}
 use Rattle.php_ast.specs.expression.Placed.{size_items, size_lead, comma_size, list_opening_size, noted, noted_items, noted_lead, notes_of}
-use Rattle.php_grammar.specs.expression.Role as role
+use Rattle.php_grammar.specs.declared.closer.Closer.TheVariants as ender
 use Rattle.php_grammar.specs.expression.Role.{Mark, refers, spreads, ends_item, begins, item_mark, mark_of, Continuation, closes, draws, neither, continuation, is_ampersand, is_paren, at_listed, beginning}
 use Rattle.php_grammar.specs.expression.Machine.{Nothing, Form, of_list, is_plain, past_items, past_value, ended_items}
 use Rattle.php_grammar.specs.expression.Laws.{head_continuation}
@@ -117,7 +117,7 @@ item_keyed array_of reader at place k key (Ok r) spans deep ahead reads found = 
 item_keyed array_of reader at place k key (Err e) spans deep ahead reads fails =
     λ items. later reader.tokens.now at (place + 1) (λ s. past_value (of_list (array array_of)) items k s) e (omega arith) (reads items) (fails array_of items k)
 
-pub shut_array : (form : ArrayForm) (lead : Lead Nothing) (v : List Symbol) → head_continuation v ≢ closes role.comma → head_continuation v ≢ closes (closer_in form) → (is_plain lead ≡ true → head_continuation v ≢ closes role.double_arrow)
+pub shut_array : (form : ArrayForm) (lead : Lead Nothing) (v : List Symbol) → head_continuation v ≢ closes ender.Comma → head_continuation v ≢ closes (closer_in form) → (is_plain lead ≡ true → head_continuation v ≢ closes ender.DoubleArrow)
     → Shut (of_list (array form)) lead v
 shut_array array_form.Brackets lead v a b d = record { no_comma = a; no_paren = λ h. cc; no_bracket = λ h. b; no_key = λ h. d }
 shut_array array_form.Array lead v a b d = record { no_comma = a; no_paren = λ h. b; no_bracket = λ h. cc; no_key = λ h. d }

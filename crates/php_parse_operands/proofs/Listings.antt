@@ -11,6 +11,8 @@ use Rattle.php_token.specs.declared.kind.Punct.TheVariants as mark
 use Rattle.php_ast.specs.expression.Proper.{ends, is_none, top}
 use Rattle.php_ast.specs.expression.Tree.{Listing}
 use Rattle.php_ast.specs.expression.Tree.{Items, none, and, skip, Lead, plain, reference, spread, keyed, keyed_reference, listed, array, is_set}
+use Rattle.php_grammar.specs.declared.closer.Closer.{Closer}
+use Rattle.php_grammar.specs.declared.closer.Closer.TheVariants as ender
 use Rattle.php_grammar.specs.expression.Role as role
 use Rattle.php_grammar.specs.expression.Role.{Mark, refers, spreads, ends_item, begins, item_mark, mark_of, Continuation, closes, draws, neither, continuation, is_ampersand, is_paren, at_listed, beginning}
 use Rattle.php_grammar.specs.expression.Machine.{Nothing, Form, Holder, of_call, of_new, of_list, is_array, is_arguments, has_paren, may_end, is_plain, items_open, OpenForms, State, expects, holds, past_items, past_value, due_listed, closed, keys, closed_with, ended_items, after, item_step, allowed_if, pick, start, started}
@@ -39,7 +41,7 @@ arguments_end (of_new class) items g = refl
 arguments_end (of_list listing) items g = cc
 
 -- a mark that ends an item ends an expression
-mark_closes_by : (x : Continuation) (c : role.Closer) → mark_of x ≡ ends_item c → x ≡ closes c
+mark_closes_by : (x : Continuation) (c : Closer) → mark_of x ≡ ends_item c → x ≡ closes c
 mark_closes_by (closes k) c h = cc
 mark_closes_by (draws (role.by_binary op)) c h = absurd (joined op h)
   where
@@ -49,15 +51,15 @@ mark_closes_by (draws (role.by_binary op)) c h = absurd (joined op h)
 mark_closes_by (draws _) c h = cc
 mark_closes_by neither c h = cc
 
-mark_closes_punct : (p : Punct) (c : role.Closer) → item_mark (punct p) ≡ ends_item c → continuation (punct p) ≡ closes c
+mark_closes_punct : (p : Punct) (c : Closer) → item_mark (punct p) ≡ ends_item c → continuation (punct p) ≡ closes c
 mark_closes_punct mark.Ellipsis c h = cc
 mark_closes_punct p c h = mark_closes_by (continuation (punct p)) c h
 
-mark_closes_one : (t : Symbol) (c : role.Closer) → item_mark t ≡ ends_item c → continuation t ≡ closes c
+mark_closes_one : (t : Symbol) (c : Closer) → item_mark t ≡ ends_item c → continuation t ≡ closes c
 mark_closes_one (punct p) c h = mark_closes_punct p c h
 mark_closes_one t c h = mark_closes_by (continuation t) c h
 
-pub mark_closes : (v : List Symbol) (c : role.Closer) → head_mark v ≡ ends_item c → head_continuation v ≡ closes c
+pub mark_closes : (v : List Symbol) (c : Closer) → head_mark v ≡ ends_item c → head_continuation v ≡ closes c
 mark_closes [] c h = cc
 mark_closes (t ∷ w) c h = mark_closes_one t c h
 
@@ -85,40 +87,40 @@ pub reference_halts : {room : ℕ} {x w : List Symbol} (t : Symbol) (h : Holder)
     → Halts true room top (λ s. past_items h items s) x x
 reference_halts t h items is marked g only = sink {to = λ s. expects (items_open h items reference ∷ s)} t is (λ s near. reference_on h items s t marked g) (λ n s near at. omega arith)
 
-pub argument_opens : {room : ℕ} {v : List Symbol} (h : Holder) (items : Items Nothing) → is_arguments h ≡ true → head_mark v ≢ spreads → head_continuation v ≢ closes role.paren
+pub argument_opens : {room : ℕ} {v : List Symbol} (h : Holder) (items : Items Nothing) → is_arguments h ≡ true → head_mark v ≢ spreads → head_continuation v ≢ closes ender.Paren
     → Leads room top (λ s. past_items h items s) v (λ s. expects (items_open h items plain ∷ s)) v
 argument_opens {room} {v} h items g no_spread no_end = items_enter h items (record {
   no_reference = λ a. let b = arguments_no_array h g in cc;
   no_spread = λ a. no_spread;
   no_comma = λ a. let b = arguments_no_array h g in cc;
-  no_paren = λ a b e. no_end (mark_closes v role.paren e);
+  no_paren = λ a b e. no_end (mark_closes v ender.Paren e);
   no_bracket = λ a. let b = arguments_paren h g in cc;
 })
 
 pub value_opens : {room : ℕ} {v : List Symbol} (items : Items Nothing) → Leads room top (λ s. past_items (of_list is_set) items s) v (λ s. expects (items_open (of_list is_set) items plain ∷ s)) v
 value_opens items = items_enter (of_list is_set) items (record { no_reference = λ a. cc; no_spread = λ a. cc; no_comma = λ a. cc; no_paren = λ a b. cc; no_bracket = λ a b. cc })
 
-pub item_opens : {room : ℕ} {v : List Symbol} (form : ArrayForm) (items : Items Nothing) → head_mark v ≢ refers → head_continuation v ≢ closes role.comma → head_continuation v ≢ closes (closer_in form)
+pub item_opens : {room : ℕ} {v : List Symbol} (form : ArrayForm) (items : Items Nothing) → head_mark v ≢ refers → head_continuation v ≢ closes ender.Comma → head_continuation v ≢ closes (closer_in form)
     → Leads room top (λ s. past_items (of_list (array form)) items s) v (λ s. expects (items_open (of_list (array form)) items plain ∷ s)) v
 item_opens {room} {v} array_form.Brackets items no_reference no_comma no_end = items_enter (of_list (array array_form.Brackets)) items (record {
   no_reference = λ a. no_reference;
   no_spread = λ a. cc;
-  no_comma = λ a e. no_comma (mark_closes v role.comma e);
+  no_comma = λ a e. no_comma (mark_closes v ender.Comma e);
   no_paren = λ a. cc;
-  no_bracket = λ a b e. no_end (mark_closes v role.bracket e);
+  no_bracket = λ a b e. no_end (mark_closes v ender.Bracket e);
 })
 item_opens {room} {v} array_form.Array items no_reference no_comma no_end = items_enter (of_list (array array_form.Array)) items (record {
   no_reference = λ a. no_reference;
   no_spread = λ a. cc;
-  no_comma = λ a e. no_comma (mark_closes v role.comma e);
-  no_paren = λ a b e. no_end (mark_closes v role.paren e);
+  no_comma = λ a e. no_comma (mark_closes v ender.Comma e);
+  no_paren = λ a b e. no_end (mark_closes v ender.Paren e);
   no_bracket = λ a. cc;
 })
 item_opens {room} {v} array_form.List items no_reference no_comma no_end = items_enter (of_list (array array_form.List)) items (record {
   no_reference = λ a. no_reference;
   no_spread = λ a. cc;
-  no_comma = λ a e. no_comma (mark_closes v role.comma e);
-  no_paren = λ a b e. no_end (mark_closes v role.paren e);
+  no_comma = λ a e. no_comma (mark_closes v ender.Comma e);
+  no_paren = λ a b e. no_end (mark_closes v ender.Paren e);
   no_bracket = λ a. cc;
 })
 
@@ -131,13 +133,13 @@ item_in {room} h items lead e opens r deep =
 
 -- ---- the key of an item
 
-key_on : (form : ArrayForm) (items : Items Nothing) (e : Form) (s : OpenForms) → closed role.double_arrow e (items_open (of_list (array form)) items plain) s ≡ Some (past_value (of_list (array form)) items e s)
+key_on : (form : ArrayForm) (items : Items Nothing) (e : Form) (s : OpenForms) → closed ender.DoubleArrow e (items_open (of_list (array form)) items plain) s ≡ Some (past_value (of_list (array form)) items e s)
 key_on form items e s = refl
 
-pub key_reads : {room : ℕ} {x w : List Symbol} (t : Symbol) (form : ArrayForm) (items : Items Nothing) (k : Form) → x ≡ t ∷ w → continuation t ≡ closes role.double_arrow → 2 ≤ room
+pub key_reads : {room : ℕ} {x w : List Symbol} (t : Symbol) (form : ArrayForm) (items : Items Nothing) (k : Form) → x ≡ t ∷ w → continuation t ≡ closes ender.DoubleArrow → 2 ≤ room
     → Leads room top (λ s. holds k (items_open (of_list (array form)) items plain ∷ s)) x (λ s. past_value (of_list (array form)) items k s) w
 key_reads t form items k is arrow deep =
-    close t role.double_arrow k (items_open (of_list (array form)) items plain) (λ s. past_value (of_list (array form)) items k s) is arrow refl (key_on form items k) (λ d. omega arith) deep
+    close t ender.DoubleArrow k (items_open (of_list (array form)) items plain) (λ s. past_value (of_list (array form)) items k s) is arrow refl (key_on form items k) (λ d. omega arith) deep
 
 pub keyed_reference_opens : {room : ℕ} {x w : List Symbol} (t : Symbol) (form : ArrayForm) (items : Items Nothing) (k : Form) → x ≡ t ∷ w → is_ampersand t ≡ true → 2 ≤ room
     → Leads room top (λ s. past_value (of_list (array form)) items k s) x (λ s. expects (items_open (of_list (array form)) items (keyed_reference k) ∷ s)) w
@@ -146,31 +148,31 @@ keyed_reference_opens t form items k is refers_to deep =
 
 -- ---- behind an item
 
-pub comma_reads : {room : ℕ} {x w : List Symbol} (t : Symbol) (h : Holder) (items : Items Nothing) (lead : Lead Nothing) (e : Form) → x ≡ t ∷ w → continuation t ≡ closes role.comma → 2 ≤ room
+pub comma_reads : {room : ℕ} {x w : List Symbol} (t : Symbol) (h : Holder) (items : Items Nothing) (lead : Lead Nothing) (e : Form) → x ≡ t ∷ w → continuation t ≡ closes ender.Comma → 2 ≤ room
     → Leads room top (λ s. holds e (items_open h items lead ∷ s)) x (λ s. past_items h (and items lead e) s) w
 comma_reads t h items lead e is comma deep =
-    close t role.comma e (items_open h items lead) (λ s. past_items h (and items lead e) s) is comma refl (λ s. refl) (λ d. omega arith) deep
+    close t ender.Comma e (items_open h items lead) (λ s. past_items h (and items lead e) s) is comma refl (λ s. refl) (λ d. omega arith) deep
 
-pub paren_reads : {room : ℕ} {x w : List Symbol} (t : Symbol) (h : Holder) (items : Items Nothing) (lead : Lead Nothing) (e : Form) → x ≡ t ∷ w → continuation t ≡ closes role.paren → has_paren h ≡ true → 2 ≤ room
+pub paren_reads : {room : ℕ} {x w : List Symbol} (t : Symbol) (h : Holder) (items : Items Nothing) (lead : Lead Nothing) (e : Form) → x ≡ t ∷ w → continuation t ≡ closes ender.Paren → has_paren h ≡ true → 2 ≤ room
     → Leads room top (λ s. holds e (items_open h items lead ∷ s)) x (λ s. after (closed_with h (and items lead e)) s) w
 paren_reads t h items lead e is paren has deep =
-    close t role.paren e (items_open h items lead) (λ s. after (closed_with h (and items lead e)) s) is paren refl (λ s. ap (λ b. allowed_if b (after (closed_with h (and items lead e)) s)) has) (λ d. omega arith) deep
+    close t ender.Paren e (items_open h items lead) (λ s. after (closed_with h (and items lead e)) s) is paren refl (λ s. ap (λ b. allowed_if b (after (closed_with h (and items lead e)) s)) has) (λ d. omega arith) deep
 
 pub array_reads : {room : ℕ} {x w : List Symbol} (t : Symbol) (form : ArrayForm) (items : Items Nothing) (lead : Lead Nothing) (e : Form) → x ≡ t ∷ w → continuation t ≡ closes (closer_in form) → 2 ≤ room
     → Leads room top (λ s. holds e (items_open (of_list (array form)) items lead ∷ s)) x (λ s. holds (listed tt (array form) (and items lead e)) s) w
 array_reads t array_form.Brackets items lead e is closer deep =
-    close t role.bracket e (items_open (of_list (array array_form.Brackets)) items lead) (λ s. holds (listed tt (array array_form.Brackets) (and items lead e)) s) is closer refl (λ s. refl) (λ d. omega arith) deep
+    close t ender.Bracket e (items_open (of_list (array array_form.Brackets)) items lead) (λ s. holds (listed tt (array array_form.Brackets) (and items lead e)) s) is closer refl (λ s. refl) (λ d. omega arith) deep
 array_reads t array_form.Array items lead e is closer deep =
-    close t role.paren e (items_open (of_list (array array_form.Array)) items lead) (λ s. holds (listed tt (array array_form.Array) (and items lead e)) s) is closer refl (λ s. refl) (λ d. omega arith) deep
+    close t ender.Paren e (items_open (of_list (array array_form.Array)) items lead) (λ s. holds (listed tt (array array_form.Array) (and items lead e)) s) is closer refl (λ s. refl) (λ d. omega arith) deep
 array_reads t array_form.List items lead e is closer deep =
-    close t role.paren e (items_open (of_list (array array_form.List)) items lead) (λ s. holds (listed tt (array array_form.List) (and items lead e)) s) is closer refl (λ s. refl) (λ d. omega arith) deep
+    close t ender.Paren e (items_open (of_list (array array_form.List)) items lead) (λ s. holds (listed tt (array array_form.List) (and items lead e)) s) is closer refl (λ s. refl) (λ d. omega arith) deep
 
 -- what closes no item
 pub record Shut (h : Holder) (lead : Lead Nothing) (v : List Symbol) : Type 0 where
-  pub no_comma : head_continuation v ≢ closes role.comma
-  pub no_paren : has_paren h ≡ true → head_continuation v ≢ closes role.paren
-  pub no_bracket : has_paren h ≡ false → head_continuation v ≢ closes role.bracket
-  pub no_key : is_array h ≡ true → is_plain lead ≡ true → head_continuation v ≢ closes role.double_arrow
+  pub no_comma : head_continuation v ≢ closes ender.Comma
+  pub no_paren : has_paren h ≡ true → head_continuation v ≢ closes ender.Paren
+  pub no_bracket : has_paren h ≡ false → head_continuation v ≢ closes ender.Bracket
+  pub no_key : is_array h ≡ true → is_plain lead ≡ true → head_continuation v ≢ closes ender.DoubleArrow
 
 allowed_off : (b : Bool) (m : State) → (b ≡ true → ⊥) → allowed_if b m ≡ None
 allowed_off false m h = refl
@@ -188,11 +190,11 @@ keys_off true h items (keyed k) e s g = refl
 keys_off true h items (keyed_reference k) e s g = refl
 keys_off false h items lead e s g = refl
 
-shut_items : (k : role.Closer) (h : Holder) (items : Items Nothing) (lead : Lead Nothing) (e : Form) (s : OpenForms) (v : List Symbol) → Shut h lead v → head_continuation v ≡ closes k → closed k e (items_open h items lead) s ≡ None
-shut_items role.comma h items lead e s v g is = absurd (g.no_comma is)
-shut_items role.paren h items lead e s v g is = allowed_off (has_paren h) (after (closed_with h (and items lead e)) s) (λ b. g.no_paren b is)
-shut_items role.bracket h items lead e s v g is = dropped_off (has_paren h) (after (closed_with h (and items lead e)) s) (λ b. g.no_bracket b is)
-shut_items role.double_arrow h items lead e s v g is = keys_off (is_array h) h items lead e s (λ a b. g.no_key a b is)
+shut_items : (k : Closer) (h : Holder) (items : Items Nothing) (lead : Lead Nothing) (e : Form) (s : OpenForms) (v : List Symbol) → Shut h lead v → head_continuation v ≡ closes k → closed k e (items_open h items lead) s ≡ None
+shut_items ender.Comma h items lead e s v g is = absurd (g.no_comma is)
+shut_items ender.Paren h items lead e s v g is = allowed_off (has_paren h) (after (closed_with h (and items lead e)) s) (λ b. g.no_paren b is)
+shut_items ender.Bracket h items lead e s v g is = dropped_off (has_paren h) (after (closed_with h (and items lead e)) s) (λ b. g.no_bracket b is)
+shut_items ender.DoubleArrow h items lead e s v g is = keys_off (is_array h) h items lead e s (λ a b. g.no_key a b is)
 shut_items _ h items lead e s v g is = refl
 
 pub item_unclosed : {room : ℕ} {v : List Symbol} (h : Holder) (items : Items Nothing) (lead : Lead Nothing) (e : Form) → Rests LEAST_POWER (ends e) v → Shut h lead v
@@ -201,31 +203,31 @@ item_unclosed {room} {v} h items lead e rests g = unclosed_halts e (items_open h
 
 -- ---- where an item is due
 
-closes_mark_punct : (p : Punct) (c : role.Closer) → continuation (punct p) ≡ closes c → item_mark (punct p) ≡ ends_item c
+closes_mark_punct : (p : Punct) (c : Closer) → continuation (punct p) ≡ closes c → item_mark (punct p) ≡ ends_item c
 closes_mark_punct mark.Ellipsis c h = cc
 closes_mark_punct p c h = ap mark_of h
 
-pub closes_mark : (t : Symbol) (c : role.Closer) → continuation t ≡ closes c → item_mark t ≡ ends_item c
+pub closes_mark : (t : Symbol) (c : Closer) → continuation t ≡ closes c → item_mark t ≡ ends_item c
 closes_mark (punct p) c h = closes_mark_punct p c h
 closes_mark t c h = ap mark_of h
 
-missing_on : (form : ArrayForm) (items : Items Nothing) (s : OpenForms) (t : Symbol) → continuation t ≡ closes role.comma
+missing_on : (form : ArrayForm) (items : Items Nothing) (s : OpenForms) (t : Symbol) → continuation t ≡ closes ender.Comma
     → item_step (item_mark t) (of_list (array form)) items s t ≡ Some (past_items (of_list (array form)) (skip items) s)
-missing_on form items s t is = ap (λ x. item_step x (of_list (array form)) items s t) (closes_mark t role.comma is)
+missing_on form items s t is = ap (λ x. item_step x (of_list (array form)) items s t) (closes_mark t ender.Comma is)
 
-pub missing_reads : {room : ℕ} {x w : List Symbol} (t : Symbol) (form : ArrayForm) (items : Items Nothing) → x ≡ t ∷ w → continuation t ≡ closes role.comma → 2 ≤ room
+pub missing_reads : {room : ℕ} {x w : List Symbol} (t : Symbol) (form : ArrayForm) (items : Items Nothing) → x ≡ t ∷ w → continuation t ≡ closes ender.Comma → 2 ≤ room
     → Leads room top (λ s. past_items (of_list (array form)) items s) x (λ s. past_items (of_list (array form)) (skip items) s) w
 missing_reads t form items is comma deep = move t is (λ s near. missing_on form items s t comma) (λ n s near at. omega arith)
 
-pub missing_halts : {room : ℕ} {x w : List Symbol} (t : Symbol) (form : ArrayForm) (items : Items Nothing) → x ≡ t ∷ w → continuation t ≡ closes role.comma → room ≡ 1
+pub missing_halts : {room : ℕ} {x w : List Symbol} (t : Symbol) (form : ArrayForm) (items : Items Nothing) → x ≡ t ∷ w → continuation t ≡ closes ender.Comma → room ≡ 1
     → Halts true room top (λ s. past_items (of_list (array form)) items s) x x
 missing_halts t form items is comma only = sink {to = λ s. past_items (of_list (array form)) (skip items) s} t is (λ s near. missing_on form items s t comma) (λ n s near at. omega arith)
 
 end_on : (form : ArrayForm) (items : Items Nothing) (s : OpenForms) (t : Symbol) → continuation t ≡ closes (closer_in form)
     → item_step (item_mark t) (of_list (array form)) items s t ≡ Some (holds (listed tt (array form) (ended_items items)) s)
-end_on array_form.Brackets items s t is = ap (λ x. item_step x (of_list (array array_form.Brackets)) items s t) (closes_mark t role.bracket is)
-end_on array_form.Array items s t is = ap (λ x. item_step x (of_list (array array_form.Array)) items s t) (closes_mark t role.paren is)
-end_on array_form.List items s t is = ap (λ x. item_step x (of_list (array array_form.List)) items s t) (closes_mark t role.paren is)
+end_on array_form.Brackets items s t is = ap (λ x. item_step x (of_list (array array_form.Brackets)) items s t) (closes_mark t ender.Bracket is)
+end_on array_form.Array items s t is = ap (λ x. item_step x (of_list (array array_form.Array)) items s t) (closes_mark t ender.Paren is)
+end_on array_form.List items s t is = ap (λ x. item_step x (of_list (array array_form.List)) items s t) (closes_mark t ender.Paren is)
 
 pub end_reads : {room : ℕ} {x w : List Symbol} (t : Symbol) (form : ArrayForm) (items : Items Nothing) → x ≡ t ∷ w → continuation t ≡ closes (closer_in form) → 2 ≤ room
     → Leads room top (λ s. past_items (of_list (array form)) items s) x (λ s. holds (listed tt (array form) (ended_items items)) s) w
@@ -235,26 +237,26 @@ pub end_halts : {room : ℕ} {x w : List Symbol} (t : Symbol) (form : ArrayForm)
     → Halts true room top (λ s. past_items (of_list (array form)) items s) x x
 end_halts t form items is closer only = sink {to = λ s. holds (listed tt (array form) (ended_items items)) s} t is (λ s near. end_on form items s t closer) (λ n s near at. omega arith)
 
-empty_on : (h : Holder) (s : OpenForms) (t : Symbol) → is_arguments h ≡ true → continuation t ≡ closes role.paren → item_step (item_mark t) h none s t ≡ Some (after (closed_with h none) s)
-empty_on (of_call f) s t g is = ap (λ x. item_step x (of_call f) none s t) (closes_mark t role.paren is)
-empty_on (of_new class) s t g is = ap (λ x. item_step x (of_new class) none s t) (closes_mark t role.paren is)
+empty_on : (h : Holder) (s : OpenForms) (t : Symbol) → is_arguments h ≡ true → continuation t ≡ closes ender.Paren → item_step (item_mark t) h none s t ≡ Some (after (closed_with h none) s)
+empty_on (of_call f) s t g is = ap (λ x. item_step x (of_call f) none s t) (closes_mark t ender.Paren is)
+empty_on (of_new class) s t g is = ap (λ x. item_step x (of_new class) none s t) (closes_mark t ender.Paren is)
 empty_on (of_list listing) s t g is = cc
 
-pub no_arguments_read : {room : ℕ} {x w : List Symbol} (t : Symbol) (h : Holder) → is_arguments h ≡ true → x ≡ t ∷ w → continuation t ≡ closes role.paren → 2 ≤ room
+pub no_arguments_read : {room : ℕ} {x w : List Symbol} (t : Symbol) (h : Holder) → is_arguments h ≡ true → x ≡ t ∷ w → continuation t ≡ closes ender.Paren → 2 ≤ room
     → Leads room top (λ s. past_items h none s) x (λ s. after (closed_with h none) s) w
 no_arguments_read t h g is paren deep = move t is (λ s near. empty_on h s t g paren) (λ n s near at. omega arith)
 
-pub no_arguments_halt : {room : ℕ} {x w : List Symbol} (t : Symbol) (h : Holder) → is_arguments h ≡ true → x ≡ t ∷ w → continuation t ≡ closes role.paren → room ≡ 1
+pub no_arguments_halt : {room : ℕ} {x w : List Symbol} (t : Symbol) (h : Holder) → is_arguments h ≡ true → x ≡ t ∷ w → continuation t ≡ closes ender.Paren → room ≡ 1
     → Halts true room top (λ s. past_items h none s) x x
 no_arguments_halt t h g is paren only = sink {to = λ s. after (closed_with h none) s} t is (λ s near. empty_on h s t g paren) (λ n s near at. omega arith)
 
 -- where `)` stands behind a comma of arguments
-paren_by : (h : Holder) (items : Items Nothing) (s : OpenForms) (t : Symbol) → is_arguments h ≡ true → is_none items ≡ false → continuation t ≡ closes role.paren → item_step (item_mark t) h items s t ≡ None
-paren_by (of_call f) items s t g some is = ap (λ x. item_step x (of_call f) items s t) (closes_mark t role.paren is) ∙ ap (λ b. allowed_if b (after (closed_with (of_call f) (ended_items items)) s)) some
-paren_by (of_new class) items s t g some is = ap (λ x. item_step x (of_new class) items s t) (closes_mark t role.paren is) ∙ ap (λ b. allowed_if b (after (closed_with (of_new class) (ended_items items)) s)) some
+paren_by : (h : Holder) (items : Items Nothing) (s : OpenForms) (t : Symbol) → is_arguments h ≡ true → is_none items ≡ false → continuation t ≡ closes ender.Paren → item_step (item_mark t) h items s t ≡ None
+paren_by (of_call f) items s t g some is = ap (λ x. item_step x (of_call f) items s t) (closes_mark t ender.Paren is) ∙ ap (λ b. allowed_if b (after (closed_with (of_call f) (ended_items items)) s)) some
+paren_by (of_new class) items s t g some is = ap (λ x. item_step x (of_new class) items s t) (closes_mark t ender.Paren is) ∙ ap (λ b. allowed_if b (after (closed_with (of_new class) (ended_items items)) s)) some
 paren_by (of_list listing) items s t g some is = cc
 
-pub paren_halts : {room : ℕ} {x w : List Symbol} (t : Symbol) (h : Holder) (items : Items Nothing) → is_arguments h ≡ true → is_none items ≡ false → x ≡ t ∷ w → continuation t ≡ closes role.paren
+pub paren_halts : {room : ℕ} {x w : List Symbol} (t : Symbol) (h : Holder) (items : Items Nothing) → is_arguments h ≡ true → is_none items ≡ false → x ≡ t ∷ w → continuation t ≡ closes ender.Paren
     → Halts false room top (λ s. past_items h items s) x x
 paren_halts {room} {x} {w} t h items g some is paren = record {
   same = λ n s whole near at. ap (walk n (past_items h items s)) is ∙ sticks n (past_items h items s) t w (paren_by h items s t g some paren) ∙ ap short (sym is);

@@ -14,6 +14,8 @@ use Rattle.php_ast.specs.expression.Proper.{ends, top}
 use Rattle.php_ast.specs.expression.Tree.{Tree, Items, none, Member, Class, class_name, class_found, Steps, from, step_property, step_index, new, new_with, Pieces, no_piece, bytes, value, template, thin}
 use Rattle.php_ast.specs.expression.View.{Note, step_more, steps_from, piece_more, pieces_from, view}
 use Rattle.php_ast.specs.expression.Placed.{size_class, size_steps, size_pieces, noted, noted_class, noted_steps, noted_member, noted_items, noted_pieces, notes_of}
+use Rattle.php_grammar.specs.declared.closer.Closer.{Closer}
+use Rattle.php_grammar.specs.declared.closer.Closer.TheVariants as ender
 use Rattle.php_grammar.specs.expression.Role as role
 use Rattle.php_grammar.specs.expression.Role.{beginning, at_new, at_template, closes, continuation, draws, by_select, word_of}
 use Rattle.php_grammar.specs.expression.Machine.{Nothing, Form, of_new, step_open, part_open, OpenForms, State, expects, holds, past_new, past_class, past_step, past_items, past_template, closed, class_step, new_step, template_step, with_member, started}
@@ -85,18 +87,18 @@ pub step_opens : {room : ℕ} {x w : List Symbol} (t : Symbol) (steps : Steps No
 step_opens t steps is drawing deep =
     move t is (λ s near. ap (class_step (class_found steps) s) drawing) (λ n s near at. omega (arith, behind_draw role.by_index s (continuation t) drawing (omega (arith, least_power_most s))))
 
-shut_step : (a : Steps Nothing) (c : role.Closer) (e : Form) (s : OpenForms) → c ≢ role.bracket → closed c e (step_open a) s ≡ None
-shut_step a role.bracket e s h = absurd (h refl)
+shut_step : (a : Steps Nothing) (c : Closer) (e : Form) (s : OpenForms) → c ≢ ender.Bracket → closed c e (step_open a) s ≡ None
+shut_step a ender.Bracket e s h = absurd (h refl)
 shut_step a _ e s h = refl
 
 pub step_index_reads : {room : ℕ} {x w y v : List Symbol} (steps : Steps Nothing) (e : Form) (u : Symbol) → Leads room top (λ s. past_class (class_found steps) s) x (λ s. expects (step_open steps ∷ s)) w
-    → Leads (room - 1) LEAST_POWER (λ s. expects s) w (λ s. holds e s) y → 1 ≤ room - 1 → y ≡ u ∷ v → continuation u ≡ closes role.bracket
+    → Leads (room - 1) LEAST_POWER (λ s. expects s) w (λ s. holds e s) y → 1 ≤ room - 1 → y ≡ u ∷ v → continuation u ≡ closes ender.Bracket
     → Leads room top (λ s. past_class (class_found steps) s) x (λ s. past_class (class_found (step_index steps e)) s) v
 step_index_reads steps e u opens r deep more ending =
-    between_reads (step_open steps) e role.bracket u (λ s. past_class (class_found (step_index steps e)) s) refl (λ d. refl) (λ s. refl) opens r (omega arith) more ending
+    between_reads (step_open steps) e ender.Bracket u (λ s. past_class (class_found (step_index steps e)) s) refl (λ d. refl) (λ s. refl) opens r (omega arith) more ending
 
 pub step_index_unclosed : {room : ℕ} {x w y : List Symbol} (steps : Steps Nothing) (e : Form) → Leads room top (λ s. past_class (class_found steps) s) x (λ s. expects (step_open steps ∷ s)) w
-    → Leads (room - 1) LEAST_POWER (λ s. expects s) w (λ s. holds e s) y → 1 ≤ room → Rests LEAST_POWER (ends e) y → head_continuation y ≢ closes role.bracket
+    → Leads (room - 1) LEAST_POWER (λ s. expects s) w (λ s. holds e s) y → 1 ≤ room → Rests LEAST_POWER (ends e) y → head_continuation y ≢ closes ender.Bracket
     → Halts false room top (λ s. past_class (class_found steps) s) x y
 step_index_unclosed steps e opens r deep rests shut =
     between_unclosed (step_open steps) e refl (λ d. refl) deep opens r rests (λ k s h. shut_step steps k e s (λ p. shut (h ∙ ap closes p)))
@@ -169,18 +171,18 @@ moldless n pieces s (t ∷ w) h = sticks n (past_template pieces s) t w (templat
 pub template_halts : {room least : ℕ} {v : List Symbol} (pieces : Pieces Nothing) → head_mold v ≡ is_other → Halts false room least (λ s. past_template pieces s) v v
 template_halts {room} {least} {v} pieces h = record { same = λ n s whole near at. moldless n pieces s v h }
 
-shut_part : (a : Pieces Nothing) (c : role.Closer) (e : Form) (s : OpenForms) → c ≢ role.part_end → closed c e (part_open a) s ≡ None
-shut_part a role.part_end e s h = absurd (h refl)
+shut_part : (a : Pieces Nothing) (c : Closer) (e : Form) (s : OpenForms) → c ≢ ender.EndPart → closed c e (part_open a) s ≡ None
+shut_part a ender.EndPart e s h = absurd (h refl)
 shut_part a _ e s h = refl
 
 pub part_reads : {room : ℕ} {x w y v : List Symbol} (pieces : Pieces Nothing) (e : Form) (u : Symbol) → Leads room top (λ s. past_template pieces s) x (λ s. expects (part_open pieces ∷ s)) w
-    → Leads (room - 1) LEAST_POWER (λ s. expects s) w (λ s. holds e s) y → 1 ≤ room - 1 → y ≡ u ∷ v → continuation u ≡ closes role.part_end
+    → Leads (room - 1) LEAST_POWER (λ s. expects s) w (λ s. holds e s) y → 1 ≤ room - 1 → y ≡ u ∷ v → continuation u ≡ closes ender.EndPart
     → Leads room top (λ s. past_template pieces s) x (λ s. past_template (value pieces e) s) v
 part_reads pieces e u opens r deep more ending =
-    between_reads (part_open pieces) e role.part_end u (λ s. past_template (value pieces e) s) refl (λ d. refl) (λ s. refl) opens r (omega arith) more ending
+    between_reads (part_open pieces) e ender.EndPart u (λ s. past_template (value pieces e) s) refl (λ d. refl) (λ s. refl) opens r (omega arith) more ending
 
 pub part_unclosed : {room : ℕ} {x w y : List Symbol} (pieces : Pieces Nothing) (e : Form) → Leads room top (λ s. past_template pieces s) x (λ s. expects (part_open pieces ∷ s)) w
-    → Leads (room - 1) LEAST_POWER (λ s. expects s) w (λ s. holds e s) y → 1 ≤ room → Rests LEAST_POWER (ends e) y → head_continuation y ≢ closes role.part_end
+    → Leads (room - 1) LEAST_POWER (λ s. expects s) w (λ s. holds e s) y → 1 ≤ room → Rests LEAST_POWER (ends e) y → head_continuation y ≢ closes ender.EndPart
     → Halts false room top (λ s. past_template pieces s) x y
 part_unclosed pieces e opens r deep rests shut =
     between_unclosed (part_open pieces) e refl (λ d. refl) deep opens r rests (λ k s h. shut_part pieces k e s (λ p. shut (h ∙ ap closes p)))

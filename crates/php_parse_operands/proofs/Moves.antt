@@ -8,6 +8,8 @@ use Rattle.php_ast.specs.declared.operator.Binary.{Binary}
 use Rattle.php_ast.specs.declared.operator.Binary.TheVariants as binary
 use Rattle.php_ast.specs.Power.{binary_row}
 use Rattle.php_ast.specs.expression.Proper.{operand_level, ends, right, free, top}
+use Rattle.php_grammar.specs.declared.closer.Closer.{Closer}
+use Rattle.php_grammar.specs.declared.closer.Closer.TheVariants as ender
 use Rattle.php_grammar.specs.expression.Role as role
 use Rattle.php_grammar.specs.expression.Role.{Draw, draw_strength, Continuation, draws, closes, neither, continuation, strength_of, is_arrow}
 use Rattle.php_grammar.specs.expression.Machine.{Form, OpenForm, enclosed_open, items_open, index_open, computed_open, step_open, part_open, then_open, else_open, short_open, prefix_open, binary_open, instance_of_open, assign_open, yield_open, yield_value_open, OpenForms, State, expects, holds, least_power_at, least_power, ends_at, completed, seated, seat_end, completed_all, missing_end, closing_part, after_by, after, holds_call, pick, allowed_if, released, opened_by, closed, continued, goes_on, advance, halt}
@@ -116,7 +118,7 @@ draws_some _ = omega arith
 
 -- an expression that goes no further, in a form that no symbol here closes
 sticks_by : (x : Continuation) (e : Form) (f : OpenForm) (s : OpenForms) → least_power_at f ≡ 0 → (strength_of x < LEAST_POWER) ⊎ (ends e ≤ strength_of x)
-    → ((c : role.Closer) → x ≡ closes c → closed c e f s ≡ None) → goes_on e (f ∷ s) x ≡ None
+    → ((c : Closer) → x ≡ closes c → closed c e f s ≡ None) → goes_on e (f ∷ s) x ≡ None
 sticks_by (draws d) e f s own (inl h) shut = absurd (omega (arith, draws_some d))
 sticks_by (draws d) e f s own (inr h) shut =
     ap (continued (draws d)) (releases_none false (draw_strength d) (f ∷ s) e (omega arith))
@@ -127,17 +129,17 @@ sticks_by (closes c) e f s own h shut =
 sticks_by neither e f s own h shut = refl
 
 pub unclosed : (n : ℕ) (e : Form) (f : OpenForm) (s : OpenForms) (v : List Symbol) → least_power_at f ≡ 0 → Rests LEAST_POWER (ends e) v
-    → ((c : role.Closer) → head_continuation v ≡ closes c → closed c e f s ≡ None) → walk n (holds e (f ∷ s)) v ≡ short v
+    → ((c : Closer) → head_continuation v ≡ closes c → closed c e f s ≡ None) → walk n (holds e (f ∷ s)) v ≡ short v
 unclosed n e f s [] own h shut = closing_short f _ [] _ own
 unclosed n e f s (t ∷ v) own h shut =
     sticks n (holds e (f ∷ s)) t v (sticks_by (continuation t) e f s own h shut) ∙ closing_short f _ (t ∷ v) _ own
 
 pub unclosed_halts : {room least : ℕ} (e : Form) (f : OpenForm) (v : List Symbol) → least_power_at f ≡ 0 → Rests LEAST_POWER (ends e) v
-    → ((c : role.Closer) (s : OpenForms) → head_continuation v ≡ closes c → closed c e f s ≡ None)
+    → ((c : Closer) (s : OpenForms) → head_continuation v ≡ closes c → closed c e f s ≡ None)
     → Halts false room least (λ s. holds e (f ∷ s)) v v
 unclosed_halts e f v own h shut = record { same = λ n s whole near is. unclosed n e f s v own h (λ c. shut c s) }
 
-closes_by : (x : Continuation) (c : role.Closer) (e : Form) (f : OpenForm) (s : OpenForms) (m : State) → x ≡ closes c → least_power_at f ≡ 0 → closed c e f s ≡ Some m
+closes_by : (x : Continuation) (c : Closer) (e : Form) (f : OpenForm) (s : OpenForms) (m : State) → x ≡ closes c → least_power_at f ≡ 0 → closed c e f s ≡ Some m
     → goes_on e (f ∷ s) x ≡ Some m
 closes_by x c e f s m is own to =
     ap (goes_on e (f ∷ s)) is
@@ -149,7 +151,7 @@ kept_all arrow n [] h = refl
 kept_all arrow n (f ∷ s) h = ap (λ b. pick b (kept arrow n s) (f ∷ s)) (le-ltb n (ends_at arrow f) h)
 
 -- the token that closes a form
-pub close : {room least : ℕ} {x v : List Symbol} (t : Symbol) (c : role.Closer) (e : Form) (f : OpenForm) (to : OpenForms → State) → x ≡ t ∷ v → continuation t ≡ closes c
+pub close : {room least : ℕ} {x v : List Symbol} (t : Symbol) (c : Closer) (e : Form) (f : OpenForm) (to : OpenForms → State) → x ≡ t ∷ v → continuation t ≡ closes c
     → least_power_at f ≡ 0 → ((s : OpenForms) → closed c e f s ≡ Some (to s)) → ((d : ℕ) → deepened f d ≤ 1 + d) → 2 ≤ room
     → Leads room least (λ s. holds e (f ∷ s)) x to v
 close {room} {least} {x} {v} t c e f to is closing own on deeper deep =
@@ -222,7 +224,7 @@ pub record Completes (f : OpenForm) (e : Form) (v : List Symbol) : Type 0 where
   pub outer : least_power_at f ≤ head_strength v → ends (completed f e) ≤ head_strength v
 
 arrow_ends : (x : Continuation) (f : OpenForm) → (is_arrow x ≡ true → ends_at true f ≡ least_power_at f) → ends_at (is_arrow x) f ≡ least_power_at f
-arrow_ends (closes role.double_arrow) f h = h refl
+arrow_ends (closes ender.DoubleArrow) f h = h refl
 arrow_ends (closes _) f h = refl
 arrow_ends (draws d) f h = refl
 arrow_ends neither f h = refl

@@ -7,6 +7,8 @@ use Rattle.php_ast.specs.expression.Proper.{ends, top, select_strength, call_str
 use Rattle.php_ast.specs.expression.Tree.{Tree, Leaf, Enclosure, parentheses, emptiness, exiting, leaf, enclosed, exit, exit_empty, static_member, colons, Member}
 use Rattle.php_ast.specs.expression.View.{Note}
 use Rattle.php_ast.specs.expression.Placed.{opening_size, noted, noted_member, notes_of}
+use Rattle.php_grammar.specs.declared.closer.Closer.{Closer}
+use Rattle.php_grammar.specs.declared.closer.Closer.TheVariants as ender
 use Rattle.php_grammar.specs.expression.Role as role
 use Rattle.php_grammar.specs.expression.Role.{at_leaf, at_static, at_exit, at_enclosed, beginning, closes, continuation, draws, by_select, is_paren, is_right_paren, member_of}
 use Rattle.php_grammar.specs.expression.Machine.{Nothing, Form, OpenForm, enclosed_open, OpenForms, State, expects, holds, due_enclosed, past_exit, past_exit_paren, past_static, past_static_colons, closed, started, static_step, with_member, allowed_if, pick, goes_on, least_power_at, start}
@@ -30,7 +32,7 @@ use Rattle.php_parse_operands.proofs.Moves.{sticks, sink, kept_all, leads, leads
 
 -- ---- one expression between two tokens
 
-pub between_reads : {room least : ℕ} {from : OpenForms → State} {x w y v : List Symbol} (f : OpenForm) (e : Form) (c : role.Closer) (u : Symbol) (to : OpenForms → State)
+pub between_reads : {room least : ℕ} {from : OpenForms → State} {x w y v : List Symbol} (f : OpenForm) (e : Form) (c : Closer) (u : Symbol) (to : OpenForms → State)
     → least_power_at f ≡ 0 → ((d : ℕ) → deepened f d ≡ 1 + d) → ((s : OpenForms) → closed c e f s ≡ Some (to s))
     → Leads room least from x (λ s. expects (f ∷ s)) w → Leads (room - 1) LEAST_POWER (λ s. expects s) w (λ s. holds e s) y → 2 ≤ room → y ≡ u ∷ v → continuation u ≡ closes c
     → Leads room least from x to v
@@ -48,28 +50,28 @@ between_halts {too_deep} {room} {least} f own deeper deep opens r =
 pub between_unclosed : {room least : ℕ} {from : OpenForms → State} {x w y : List Symbol} (f : OpenForm) (e : Form)
     → least_power_at f ≡ 0 → ((d : ℕ) → deepened f d ≡ 1 + d) → 1 ≤ room
     → Leads room least from x (λ s. expects (f ∷ s)) w → Leads (room - 1) LEAST_POWER (λ s. expects s) w (λ s. holds e s) y → Rests LEAST_POWER (ends e) y
-    → ((k : role.Closer) (s : OpenForms) → head_continuation y ≡ closes k → closed k e f s ≡ None)
+    → ((k : Closer) (s : OpenForms) → head_continuation y ≡ closes k → closed k e f s ≡ None)
     → Halts false room least from x y
 between_unclosed {room} {least} {from} {x} {w} {y} f e own deeper deep opens r rests shut =
     leads_halts (λ s. expects (f ∷ s)) opens
     (leads_halts (λ s. holds e (f ∷ s)) (inside (room - 1) LEAST_POWER f (inl own) (omega arith) (λ d. omega (arith, deeper d)) r)
     (unclosed_halts e f y own rests shut))
 
-shut_enclosed : (enclosure : Enclosure) (c : role.Closer) (e : Form) (s : OpenForms) → c ≢ role.paren → closed c e (enclosed_open enclosure) s ≡ None
-shut_enclosed enclosure role.paren e s h = absurd (h refl)
+shut_enclosed : (enclosure : Enclosure) (c : Closer) (e : Form) (s : OpenForms) → c ≢ ender.Paren → closed c e (enclosed_open enclosure) s ≡ None
+shut_enclosed enclosure ender.Paren e s h = absurd (h refl)
 shut_enclosed enclosure _ e s h = refl
 
 -- `)` closes what encloses one expression
 pub enclosed_reads : {room : ℕ} {e : Form} {x w y v : List Symbol} (enclosure : Enclosure) (u : Symbol)
     → Leads room top (λ s. expects s) x (λ s. expects (enclosed_open enclosure ∷ s)) w
-    → Leads (room - 1) LEAST_POWER (λ s. expects s) w (λ s. holds e s) y → 1 ≤ room - 1 → y ≡ u ∷ v → continuation u ≡ closes role.paren
+    → Leads (room - 1) LEAST_POWER (λ s. expects s) w (λ s. holds e s) y → 1 ≤ room - 1 → y ≡ u ∷ v → continuation u ≡ closes ender.Paren
     → Leads room top (λ s. expects s) x (λ s. holds (enclosed tt enclosure e) s) v
 enclosed_reads {room} {e} enclosure u opens r deep more ending =
-    between_reads (enclosed_open enclosure) e role.paren u (λ s. holds (enclosed tt enclosure e) s) refl (λ d. refl) (λ s. refl) opens r (omega arith) more ending
+    between_reads (enclosed_open enclosure) e ender.Paren u (λ s. holds (enclosed tt enclosure e) s) refl (λ d. refl) (λ s. refl) opens r (omega arith) more ending
 
 pub enclosed_unclosed : {room : ℕ} {e : Form} {x w y : List Symbol} (enclosure : Enclosure) → 1 ≤ room
     → Leads room top (λ s. expects s) x (λ s. expects (enclosed_open enclosure ∷ s)) w
-    → Leads (room - 1) LEAST_POWER (λ s. expects s) w (λ s. holds e s) y → Rests LEAST_POWER (ends e) y → head_continuation y ≢ closes role.paren
+    → Leads (room - 1) LEAST_POWER (λ s. expects s) w (λ s. holds e s) y → Rests LEAST_POWER (ends e) y → head_continuation y ≢ closes ender.Paren
     → Halts false room top (λ s. expects s) x y
 enclosed_unclosed {room} {e} enclosure deep opens r rests shut =
     between_unclosed (enclosed_open enclosure) e refl (λ d. refl) deep opens r rests

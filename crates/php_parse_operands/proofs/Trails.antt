@@ -9,6 +9,8 @@ use Rattle.php_ast.specs.declared.expression.Expr.{Expr}
 use Rattle.php_ast.specs.declared.expression.Suffix.{Suffix}
 use Rattle.php_ast.specs.expression.View.{Note, with_suffix, with_suffixes, view}
 use Rattle.php_ast.specs.expression.Placed.{noted_items}
+use Rattle.php_grammar.specs.declared.closer.Closer.{Closer}
+use Rattle.php_grammar.specs.declared.closer.Closer.TheVariants as ender
 use Rattle.php_grammar.specs.expression.Machine.{of_call, past_items, after_by}
 use Rattle.php_ast.specs.expression.Proper.{is_call}
 use Rattle.php_ast.specs.expression.Parts.{suffix_with}
@@ -48,17 +50,17 @@ pub index_opens : {room : ℕ} {x w : List Symbol} (t : Symbol) (f : Form) → x
     → Leads room top (λ s. after f s) x (λ s. expects (index_open f ∷ s)) w
 index_opens t f is drawing low filled deep = leads (λ s. past_index f s) (index_begins t f is drawing low deep) (index_enters f filled)
 
-shut_index : (a : Form) (c : role.Closer) (e : Form) (s : OpenForms) → c ≢ role.bracket → closed c e (index_open a) s ≡ None
-shut_index a role.bracket e s h = absurd (h refl)
+shut_index : (a : Form) (c : Closer) (e : Form) (s : OpenForms) → c ≢ ender.Bracket → closed c e (index_open a) s ≡ None
+shut_index a ender.Bracket e s h = absurd (h refl)
 shut_index a _ e s h = refl
 
 pub index_reads : {room : ℕ} {x w y v : List Symbol} (f e : Form) (u : Symbol) → Leads room top (λ s. after f s) x (λ s. expects (index_open f ∷ s)) w
-    → Leads (room - 1) LEAST_POWER (λ s. expects s) w (λ s. holds e s) y → 1 ≤ room - 1 → y ≡ u ∷ v → continuation u ≡ closes role.bracket
+    → Leads (room - 1) LEAST_POWER (λ s. expects s) w (λ s. holds e s) y → 1 ≤ room - 1 → y ≡ u ∷ v → continuation u ≡ closes ender.Bracket
     → Leads room top (λ s. after f s) x (λ s. after (index f e) s) v
-index_reads f e u opens r deep more ending = between_reads (index_open f) e role.bracket u (λ s. holds (index f e) s) refl (λ d. refl) (λ s. refl) opens r (omega arith) more ending
+index_reads f e u opens r deep more ending = between_reads (index_open f) e ender.Bracket u (λ s. holds (index f e) s) refl (λ d. refl) (λ s. refl) opens r (omega arith) more ending
 
 pub index_unclosed : {room : ℕ} {x w y : List Symbol} (f e : Form) → Leads room top (λ s. after f s) x (λ s. expects (index_open f ∷ s)) w
-    → Leads (room - 1) LEAST_POWER (λ s. expects s) w (λ s. holds e s) y → 1 ≤ room → Rests LEAST_POWER (ends e) y → head_continuation y ≢ closes role.bracket
+    → Leads (room - 1) LEAST_POWER (λ s. expects s) w (λ s. holds e s) y → 1 ≤ room → Rests LEAST_POWER (ends e) y → head_continuation y ≢ closes ender.Bracket
     → Halts false room top (λ s. after f s) x y
 index_unclosed f e opens r deep rests shut =
     between_unclosed (index_open f) e refl (λ d. refl) deep opens r rests (λ k s h. shut_index f k e s (λ p. shut (h ∙ ap closes p)))
@@ -82,17 +84,17 @@ computed_opens t u f is drawing low more brace deep =
     leads (λ s. past_arrow thin f s) (arrow_begins t f is drawing low deep)
     (move u more (λ s near. ap (λ b. pick b (Some (expects (computed_open f ∷ s))) (with_member (member_of u) (λ m. holds (selected f thin m) s))) brace) (λ n s near at. omega arith))
 
-shut_computed : (a : Form) (c : role.Closer) (e : Form) (s : OpenForms) → c ≢ role.brace → closed c e (computed_open a) s ≡ None
-shut_computed a role.brace e s h = absurd (h refl)
+shut_computed : (a : Form) (c : Closer) (e : Form) (s : OpenForms) → c ≢ ender.Brace → closed c e (computed_open a) s ≡ None
+shut_computed a ender.Brace e s h = absurd (h refl)
 shut_computed a _ e s h = refl
 
 pub computed_reads : {room : ℕ} {x w y v : List Symbol} (f e : Form) (u : Symbol) → Leads room top (λ s. after f s) x (λ s. expects (computed_open f ∷ s)) w
-    → Leads (room - 1) LEAST_POWER (λ s. expects s) w (λ s. holds e s) y → 1 ≤ room - 1 → y ≡ u ∷ v → continuation u ≡ closes role.brace
+    → Leads (room - 1) LEAST_POWER (λ s. expects s) w (λ s. holds e s) y → 1 ≤ room - 1 → y ≡ u ∷ v → continuation u ≡ closes ender.Brace
     → Leads room top (λ s. after f s) x (λ s. after (computed f e) s) v
-computed_reads f e u opens r deep more ending = between_reads (computed_open f) e role.brace u (λ s. holds (computed f e) s) refl (λ d. refl) (λ s. refl) opens r (omega arith) more ending
+computed_reads f e u opens r deep more ending = between_reads (computed_open f) e ender.Brace u (λ s. holds (computed f e) s) refl (λ d. refl) (λ s. refl) opens r (omega arith) more ending
 
 pub computed_unclosed : {room : ℕ} {x w y : List Symbol} (f e : Form) → Leads room top (λ s. after f s) x (λ s. expects (computed_open f ∷ s)) w
-    → Leads (room - 1) LEAST_POWER (λ s. expects s) w (λ s. holds e s) y → 1 ≤ room → Rests LEAST_POWER (ends e) y → head_continuation y ≢ closes role.brace
+    → Leads (room - 1) LEAST_POWER (λ s. expects s) w (λ s. holds e s) y → 1 ≤ room → Rests LEAST_POWER (ends e) y → head_continuation y ≢ closes ender.Brace
     → Halts false room top (λ s. after f s) x y
 computed_unclosed f e opens r deep rests shut =
     between_unclosed (computed_open f) e refl (λ d. refl) deep opens r rests (λ k s h. shut_computed f k e s (λ p. shut (h ∙ ap closes p)))

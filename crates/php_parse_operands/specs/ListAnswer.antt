@@ -14,6 +14,8 @@ use Rattle.php_ast.specs.expression.Proper.{ends, is_none, top}
 use Rattle.php_ast.specs.expression.View as shown
 use Rattle.php_ast.specs.expression.View.{Note, view}
 use Rattle.php_ast.specs.expression.Placed.{size, size_items, size_lead, size_class, size_steps, size_pieces, comma_size, noted, noted_items, noted_lead, noted_class, noted_steps, noted_pieces, notes_of}
+use Rattle.php_grammar.specs.declared.closer.Closer.{Closer}
+use Rattle.php_grammar.specs.declared.closer.Closer.TheVariants as ender
 use Rattle.php_grammar.specs.expression.Role as role
 use Rattle.php_grammar.specs.expression.Role.{closes, continuation, draws, draw_strength, ends_yield}
 use Rattle.php_grammar.specs.expression.Laws.{head_continuation}
@@ -37,9 +39,9 @@ use Rattle.php_parse_operands.specs.Answer.{Fails}
 -- ---- lists, from behind their opening token
 
 -- what ends the items of an array or a list
-abbrev pub closer_in : ArrayForm → role.Closer
-closer_in array_form.Brackets = role.bracket
-closer_in _ = role.paren
+abbrev pub closer_in : ArrayForm → Closer
+closer_in array_form.Brackets = ender.Bracket
+closer_in _ = ender.Paren
 
 -- the form of what was listed, up to the closing token before a place
 pub record SpansItems (tokens : List Token) (xs : tree.Items Note) (items : tree.Items Nothing) (at next : ℕ) : Type 0 where
@@ -92,7 +94,7 @@ pub record FoundItem (array_of : ArrayForm) (room : ℕ) (tokens : List Token) (
   pub reads : (items : tree.Items Nothing) → Leads room top (λ s. past_items (of_list (array array_of)) items s) (rest tokens at) (λ s. holds form (items_open (of_list (array array_of)) items lead ∷ s)) (rest tokens r.next)
   pub rests : Rests LEAST_POWER (ends form) (rest tokens r.next)
   pub follows : Follows tokens r.next (next_view r.behind)
-  pub no_key : is_plain lead ≡ true → head_continuation (rest tokens r.next) ≢ closes role.double_arrow
+  pub no_key : is_plain lead ≡ true → head_continuation (rest tokens r.next) ≢ closes ender.DoubleArrow
   pub deep : 2 ≤ room
   pub ahead : at < r.next
   pub within : r.next ≤ length tokens
@@ -214,7 +216,7 @@ pub record ArgumentsSoFar (room : ℕ) (tokens : List Token) (at : ℕ) (xs : Li
   pub sized : at + size_items items + comma_size items ≡ next
   pub flat : are_flat_arguments xs ≡ true
   pub reads : (h : Holder) → is_arguments h ≡ true → Leads room top (λ s. past_items h tree.none s) (rest tokens at) (λ s. past_items h items s) (rest tokens next)
-  pub no_end : head_continuation (rest tokens next) ≢ closes role.paren
+  pub no_end : head_continuation (rest tokens next) ≢ closes ender.Paren
   pub within : next ≤ length tokens
 
 pub record ValuesSoFar (room : ℕ) (tokens : List Token) (at : ℕ) (xs : List Expr) (next : ℕ) : Type 0 where

@@ -4,6 +4,7 @@ ghost use Rattle.std.specs.Prelude.{◌≡◌, ◌≢◌, ◌≤◌, ◌<◌, �
 ghost use Rattle.php_ast.specs.declared.expression.Item.TheVariants.{Missing};
 ghost use Rattle.php_ast.specs.declared.operator.ArrayForm.TheVariants as array_form;
 ghost use Rattle.php_ast.specs.expression.Tree as tree;
+ghost use Rattle.php_grammar.specs.declared.closer.Closer.TheVariants as ender;
 ghost use Rattle.php_grammar.specs.expression.Role as role;
 ghost use Rattle.php_grammar.specs.expression.Role.{beginning, closes, draws};
 ghost use Rattle.php_grammar.specs.expression.Laws.{head_continuation};
@@ -12,26 +13,25 @@ ghost use Rattle.php_parse_operands.specs.Answer.{AnswersLeaf};
 ghost use Rattle.php_parse_operands.specs.ListAnswer.{AnswersArgument, AnswersArguments, AnswersItem, AnswersItems, AnswersKeyed, AnswersValues, closer_in};
 ghost use Rattle.php_build.specs.Flat.{is_flat};
 ghost use Rattle.php_reader.specs.Seen.{Shows, rest};
-ghost use Rattle.php_reader.specs.RoleView.{closer_view};
 
 use crate::inner::ReadsInner;
 use crate::parser::Parser;
 use crate::read::{Element, Listed, Read, Taken};
 use php_ast::{Argument, ArrayForm, Expr, Item};
 use php_build::build::{array_expr, is_set_expr};
+use php_grammar::Closer;
 use php_lex::Tokens;
 use php_reader::Stop;
 use php_reader::limit::{LEAST_POWER, TOP};
 use php_reader::look::{
     closed_by, ends_with, next_at, sees_ampersand, sees_paren, sees_reference, sees_spread, spot,
 };
-use php_reader::role::Closer;
 use sqlite_items::Items;
 use std::alloc::{AllocError, Global};
 
 /// What ends the items of an array or a list.
 fn closer_of(form: ArrayForm) -> Closer
-    ensures { closer_view result ≡ closer_in form }
+    ensures { result ≡ closer_in form }
 {
     match form {
         ArrayForm::Brackets => Closer::Bracket,
@@ -56,7 +56,7 @@ impl<'t, R: ReadsInner> Parser<'t, R> {
     /// An argument.
     fn argument(&self, at: usize) -> Result<Element<Argument<Expr>>, Stop>
         requires within { at ≤ length self.now.reader.tokens.now }
-        requires no_end { head_continuation (rest self.now.reader.tokens.now at) ≢ closes role.paren }
+        requires no_end { head_continuation (rest self.now.reader.tokens.now at) ≢ closes ender.Paren }
         ensures { AnswersArgument self.now.reader at result }
     {
         if sees_spread(self.reader.tokens, at) {
@@ -91,7 +91,7 @@ impl<'t, R: ReadsInner> Parser<'t, R> {
     /// One argument or more, and the parenthesis behind them.
     fn some_arguments(&self, at: usize) -> Result<Listed<Argument<Expr>>, Stop>
         requires within { at ≤ length self.now.reader.tokens.now }
-        requires no_end { head_continuation (rest self.now.reader.tokens.now at) ≢ closes role.paren }
+        requires no_end { head_continuation (rest self.now.reader.tokens.now at) ≢ closes ender.Paren }
         ensures { AnswersArguments self.now.reader at result }
     {
         let mut items = Items::new(self.reader.alloc);
@@ -210,7 +210,7 @@ impl<'t, R: ReadsInner> Parser<'t, R> {
     /// An item that is not missing.
     fn item(&self, at: usize, form: ArrayForm) -> Result<Element<Item<Expr>>, Stop>
         requires within { at ≤ length self.now.reader.tokens.now }
-        requires no_comma { head_continuation (rest self.now.reader.tokens.now at) ≢ closes role.comma }
+        requires no_comma { head_continuation (rest self.now.reader.tokens.now at) ≢ closes ender.Comma }
         requires no_end { head_continuation (rest self.now.reader.tokens.now at) ≢ closes (closer_in form) }
         ensures { AnswersItem form self.now.reader at result }
     {

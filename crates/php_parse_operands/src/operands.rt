@@ -21,13 +21,14 @@ use php_base::NoMemory;
 use php_build::build::{
     empty_expr, exit_empty_expr, exit_expr, exit_with_expr, group_expr, static_member_expr,
 };
+use php_grammar::Closer;
 use php_lex::Tokens;
 use php_reader::Stop;
 use php_reader::limit::{LEAST_POWER, OPEN_EXIT, TOP};
 use php_reader::look::{
     closed_by, member_at, name_at, next_at, sees_paren, sees_right_paren, spot, text_at,
 };
-use php_reader::role::{Closer, LeafKind, Opening};
+use php_reader::role::{LeafKind, Opening};
 use std::alloc::Global;
 
 /// An operand of one token.

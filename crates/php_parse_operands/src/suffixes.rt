@@ -18,11 +18,12 @@ use crate::parser::Parser;
 use crate::read::{Followed, Operand, Read, Taken};
 use php_ast::{Named, Suffix};
 use php_build::build::{chain_expr, property_suffix};
+use php_grammar::Closer;
 use php_lex::Tokens;
 use php_reader::Stop;
 use php_reader::limit::{LEAST_POWER, TOP};
 use php_reader::look::{closed_by, member_at, next_at, sees_left_brace, sees_right_bracket};
-use php_reader::role::{Closer, Next, Opening, Tail, tail_strength};
+use php_reader::role::{Next, Opening, Tail, tail_strength};
 use sqlite_items::Items;
 use std::alloc::Global;
 

@@ -12,7 +12,7 @@ use Rattle.php_ast.specs.statement.Proper.{Each, IfAny, is_empty}
 use Rattle.php_ast.specs.declaration.Tree.{Param, Signature}
 use Rattle.php_ast.specs.declaration.Spelling.{spell_declared, spell_param, spell_signature}
 use Rattle.php_ast.specs.declaration.Proper.{IsProperParam, IsProperSignature}
-use Rattle.php_grammar.specs.expression.Role as role
+use Rattle.php_grammar.specs.declared.closer.Closer.TheVariants as ender
 use Rattle.php_grammar.specs.expression.Role.{Continuation, closes, continuation, is_paren, is_right_paren, is_colon}
 use Rattle.php_grammar.specs.expression.Machine.{Nothing, Form, OpenForms, instance_of_open, State, expects, past_static, past_yield, pick, advance, halt, halt_yield, is_last, missing_end, read, read_from, or_halt}
 use Rattle.php_grammar.specs.Run.{either, if_some, if_nothing, whole_before}
@@ -201,8 +201,8 @@ ending_says t = ending_of_says (continuation t) t (continuation_says t)
 -- a whole parameter
 end_on : (params : Params) (p : Param Nothing) (e : Ending) (t : Symbol) (f : List Symbol → List Symbol) → EndingSays e t → AreProperParams params → IsProperParam p
     → ((z : List Symbol) → f z ≡ opened_params params (spell_param p z)) → BegunIf (param_end (then_also params p) e) (with_one f t)
-end_on params p (closer role.comma) t f says proper own h = ((proper, own), λ z. h (t ∷ z) ∙ ap (λ y. opened_params params (spell_param p (y ∷ z))) says)
-end_on params p (closer role.paren) t f says proper own h = ((proper, own), λ z. h (t ∷ z) ∙ ap (λ y. opened_params params (spell_param p (y ∷ z))) says)
+end_on params p (closer ender.Comma) t f says proper own h = ((proper, own), λ z. h (t ∷ z) ∙ ap (λ y. opened_params params (spell_param p (y ∷ z))) says)
+end_on params p (closer ender.Paren) t f says proper own h = ((proper, own), λ z. h (t ∷ z) ∙ ap (λ y. opened_params params (spell_param p (y ∷ z))) says)
 end_on params p (closer _) t f says proper own h = tt
 end_on params p as_word t f says proper own h = tt
 end_on params p no_ending t f says proper own h = tt

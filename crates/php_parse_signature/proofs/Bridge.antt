@@ -7,39 +7,16 @@ use Rattle.php_ast.specs.Symbol.{Symbol}
 use Rattle.php_ast.specs.declaration.Tree.{Param, Signature}
 use Rattle.php_ast.specs.statement.Tree.{then_also}
 use Rattle.php_grammar.specs.Run.{either, if_some, if_nothing, whole_before}
-use Rattle.php_grammar.specs.expression.Machine.{Nothing, Form, OpenForms, instance_of_open, State, past_static, past_yield, advance, halt, halt_yield, is_last, missing_end}
+use Rattle.php_grammar.specs.expression.Machine.{Nothing, Form, State, advance, halt}
 use Rattle.php_grammar.specs.expression.Depth.{depth_at}
 use Rattle.php_grammar.specs.TooDeep.{depth_inside}
 use Rattle.php_grammar.specs.statement.Role.{ending}
 use Rattle.php_grammar.specs.declaration.SignatureMachine.{Params, in_default, with_default, with_param, closing, param_end, halt_signature}
 use Rattle.php_parse_operands.specs.Walk as inner
 use Rattle.php_parse_body.proofs.Walked.{halt_unread}
+use Rattle.php_grammar.proofs.Inside.{Alike, halts_alike}
+use Rattle.php_grammar_laws.proofs.Lends.{deeper_by}
 use Rattle.php_grammar_laws.specs.Walks.{OutcomeOf, short, deep, outcome, outcome_by, stepped, walk_signature}
-
--- ---- what halts in front of a symbol doesn't look behind it
-
-last_alike : (t : Symbol) (w missing : List Symbol) → is_last (t ∷ w) missing ≡ is_last (t ∷ []) missing
-last_alike t w [] = refl
-last_alike t w (x ∷ missing) = refl
-
-yield_trees : (b : Bool) (s : OpenForms) (v w : List Symbol) → (halt_yield b s v).tree ≡ (halt_yield b s w).tree
-yield_trees true s v w = refl
-yield_trees false s v w = refl
-
-yield_missing : (b : Bool) (s : OpenForms) (v w : List Symbol) → (halt_yield b s v).missing ≡ (halt_yield b s w).missing
-yield_missing true s v w = refl
-yield_missing false s v w = refl
-
-same_tree : (m : State) (t : Symbol) (w : List Symbol) → (halt m (t ∷ w)).tree ≡ (halt m (t ∷ [])).tree
-same_tree (past_static (instance_of_open l ∷ s)) t w = refl
-same_tree (past_yield s) t w = ap (λ b. (halt_yield b s (t ∷ w)).tree) (last_alike t w (missing_end s)) ∙ yield_trees (is_last (t ∷ []) (missing_end s)) s (t ∷ w) (t ∷ [])
-same_tree _ t w = refl
-
-same_missing : (m : State) (t : Symbol) (w : List Symbol) → (halt m (t ∷ w)).missing ≡ (halt m (t ∷ [])).missing
-same_missing (past_static (instance_of_open l ∷ s)) t w = refl
-same_missing (past_yield s) t w =
-    ap (λ b. (halt_yield b s (t ∷ w)).missing) (last_alike t w (missing_end s)) ∙ yield_missing (is_last (t ∷ []) (missing_end s)) s (t ∷ w) (t ∷ [])
-same_missing _ t w = refl
 
 -- ---- what the outer machine makes of an outcome inside
 
@@ -77,16 +54,13 @@ stuck : (n : ℕ) (params : Params) (p : Param Nothing) (m : State) (t : Symbol)
     → stepped (if_some (whole_before m t) (λ x. param_end (then_also params (with_default p x)) (ending t))) (nat_lt (suc n) 1) (λ x. walk_signature (suc n) x w) (outcome (halt_signature (in_default params p m) (t ∷ w))) (t ∷ w)
     ≡ carried n params p (inner.outcome (halt m (t ∷ w)))
 stuck n params p m t w =
+    let same : Alike (halt m (t ∷ w)) (halt m (t ∷ [])) = halts_alike m t w in
     ap (λ o. stepped (if_some (whole_before m t) (λ x. param_end (then_also params (with_default p x)) (ending t))) (nat_lt (suc n) 1) (λ x. walk_signature (suc n) x w) o (t ∷ w)) (lacks_end params p m (t ∷ w))
-    ∙ ap (λ u. stepped (if_some (if_nothing u (halt m (t ∷ [])).tree) (λ x. param_end (then_also params (with_default p x)) (ending t))) (nat_lt (suc n) 1) (λ x. walk_signature (suc n) x w) (short (t ∷ w)) (t ∷ w)) (sym (same_missing m t w))
-    ∙ ap (λ e. stepped (if_some (if_nothing (halt m (t ∷ w)).missing e) (λ x. param_end (then_also params (with_default p x)) (ending t))) (nat_lt (suc n) 1) (λ x. walk_signature (suc n) x w) (short (t ∷ w)) (t ∷ w)) (sym (same_tree m t w))
+    ∙ ap (λ u. stepped (if_some (if_nothing u (halt m (t ∷ [])).tree) (λ x. param_end (then_also params (with_default p x)) (ending t))) (nat_lt (suc n) 1) (λ x. walk_signature (suc n) x w) (short (t ∷ w)) (t ∷ w)) (sym same.missing)
+    ∙ ap (λ e. stepped (if_some (if_nothing (halt m (t ∷ w)).missing e) (λ x. param_end (then_also params (with_default p x)) (ending t))) (nat_lt (suc n) 1) (λ x. walk_signature (suc n) x w) (short (t ∷ w)) (t ∷ w)) (sym same.tree)
     ∙ stuck_by n params p t w (halt m (t ∷ w)).missing (halt m (t ∷ w)).tree (halt m (t ∷ w)).unread (halt_unread m (t ∷ w))
 
 -- the inner machine takes it
-deeper_by : (b : Bool) (n d : ℕ) → nat_lt n d ≡ b → nat_lt (suc n) (d + 1) ≡ b
-deeper_by true n d is = lt-ltb (suc n) (d + 1) (omega (arith, ltb-true n d is))
-deeper_by false n d is = le-ltb (suc n) (d + 1) (omega (arith, ltb-false n d is))
-
 taken_by : (b : Bool) (n : ℕ) (params : Params) (p : Param Nothing) (x : State) (t : Symbol) (w : List Symbol) (a : OutcomeOf (Signature Nothing)) (c : inner.Outcome)
     → walk_signature (suc n) (in_default params p x) w ≡ carried n params p (inner.walk n x w)
     → stepped (Some (in_default params p x)) b (λ y. walk_signature (suc n) y w) a (t ∷ w) ≡ carried n params p (inner.stepped (Some x) b (λ y. inner.walk n y w) c (t ∷ w))
@@ -100,7 +74,7 @@ bridge_by : (o : Option State) (n : ℕ) (params : Params) (p : Param Nothing) (
     ≡ carried n params p (inner.stepped o (nat_lt n (depth_at m t)) (λ x. inner.walk n x w) (inner.outcome (halt m (t ∷ w))) (t ∷ w))
 bridge_by None n params p m t w next = stuck n params p m t w
 bridge_by (Some x) n params p m t w next =
-    ap (λ b. stepped (Some (in_default params p x)) b (λ y. walk_signature (suc n) y w) (outcome (halt_signature (in_default params p m) (t ∷ w))) (t ∷ w)) (deeper_by (nat_lt n (depth_at m t)) n (depth_at m t) refl)
+    ap (λ b. stepped (Some (in_default params p x)) b (λ y. walk_signature (suc n) y w) (outcome (halt_signature (in_default params p m) (t ∷ w))) (t ∷ w)) (deeper_by (nat_lt n (depth_at m t)) n 1 (depth_at m t) refl)
     ∙ taken_by (nat_lt n (depth_at m t)) n params p x t w (outcome (halt_signature (in_default params p m) (t ∷ w))) (inner.outcome (halt m (t ∷ w))) (next x)
 
 pub bridge : (n : ℕ) (params : Params) (p : Param Nothing) (m : State) (w : List Symbol) → walk_signature (suc n) (in_default params p m) w ≡ carried n params p (inner.walk n m w)

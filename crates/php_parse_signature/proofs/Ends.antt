@@ -6,7 +6,7 @@ use Rattle.php_token.specs.declared.kind.Punct.TheVariants as mark
 use Rattle.php_ast.specs.Symbol.{Symbol, keyword, punct}
 use Rattle.php_ast.specs.declaration.Tree.{Param}
 use Rattle.php_ast.specs.statement.Tree.{then_also}
-use Rattle.php_grammar.specs.expression.Role as role
+use Rattle.php_grammar.specs.declared.closer.Closer.TheVariants as ender
 use Rattle.php_grammar.specs.expression.Role.{Continuation, draws, closes, neither, continuation}
 use Rattle.php_grammar.specs.expression.Laws.{head_continuation}
 use Rattle.php_grammar.specs.expression.Machine.{Nothing, Form, expects, holds, pick}
@@ -32,14 +32,14 @@ paren_read n params p (Some e) w =
 
 -- ---- where neither stands there
 
-no_end_of : (params : Params) (x : Continuation) → x ≢ closes role.comma → x ≢ closes role.paren → param_end params (ending_of x) ≡ None
-no_end_of params (closes role.comma) h g = absurd (h refl)
-no_end_of params (closes role.paren) h g = absurd (g refl)
+no_end_of : (params : Params) (x : Continuation) → x ≢ closes ender.Comma → x ≢ closes ender.Paren → param_end params (ending_of x) ≡ None
+no_end_of params (closes ender.Comma) h g = absurd (h refl)
+no_end_of params (closes ender.Paren) h g = absurd (g refl)
 no_end_of params (closes _) h g = refl
 no_end_of params (draws d) h g = refl
 no_end_of params neither h g = refl
 
-no_end : (params : Params) (t : Symbol) → continuation t ≢ closes role.comma → continuation t ≢ closes role.paren → param_end params (ending t) ≡ None
+no_end : (params : Params) (t : Symbol) → continuation t ≢ closes ender.Comma → continuation t ≢ closes ender.Paren → param_end params (ending t) ≡ None
 no_end params (keyword word.As) h g = refl
 no_end params t h g = no_end_of params (continuation t) h g
 
@@ -47,7 +47,7 @@ name_none : (b : Bool) (params : Params) (p : Param Nothing) (o : Option Signatu
 name_none false params p o h is = is
 name_none true params p o h is = cc
 
-pub neither_read : (n : ℕ) (params : Params) (p : Param Nothing) (value : Option Form) (w : List Symbol) → ValueRests value w → head_continuation w ≢ closes role.comma → head_continuation w ≢ closes role.paren
+pub neither_read : (n : ℕ) (params : Params) (p : Param Nothing) (value : Option Form) (w : List Symbol) → ValueRests value w → head_continuation w ≢ closes ender.Comma → head_continuation w ≢ closes ender.Paren
     → walk_signature (suc n) (behind params p value) w ≡ short w
 neither_read n params p None [] rests h g = refl
 neither_read n params p None (t ∷ w) rests h g =

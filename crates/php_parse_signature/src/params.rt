@@ -9,10 +9,10 @@ use crate::fronts::front;
 use crate::look::sees_assign;
 use crate::read::{ReadParam, ReadParams, Valued};
 use php_ast::{Expr, Param};
+use php_grammar::Closer;
 use php_parse_body::{Read, read_expression};
 use php_reader::limit::LEAST_POWER;
 use php_reader::look::{ends_with, sees_right_paren};
-use php_reader::role::Closer;
 use php_reader::{Reader, Stop};
 use sqlite_items::Items;
 

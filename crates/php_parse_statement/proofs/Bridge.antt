@@ -6,8 +6,9 @@ use Rattle.std.proofs.lemmas.Bool.{lt-ltb, le-ltb}
 use Rattle.php_ast.specs.Symbol.{Symbol}
 use Rattle.php_grammar.specs.Run.{either, if_some, ReadingOf, if_nothing, whole_before, through_expression}
 use Rattle.php_grammar.specs.TooDeep.{depth_inside}
-use Rattle.php_grammar.specs.expression.Machine.{Form, State, OpenForms, expects, holds, holds_call, due_enclosed, due_listed, past_static, past_yield, instance_of_open, missing_end, Reading, halt_static, halt_yield, is_last, advance, halt}
+use Rattle.php_grammar.specs.expression.Machine.{Form, State, advance, halt}
 use Rattle.php_grammar.specs.expression.Depth.{depth_at}
+use Rattle.php_grammar.proofs.Inside.{Alike, halts_alike}
 use Rattle.php_grammar.proofs.expression.LawProofs.{halt_unread}
 use Rattle.php_parse_operands.specs.Walk as inner
 use Rattle.php_parse_operands.specs.Walk.{walk}
@@ -15,38 +16,9 @@ use Rattle.php_parse_statement.specs.Walk.{OutcomeOf, short, deep, outcome, step
 
 -- ---- what halts in front of a symbol looks at that one alone
 
-record Alike (a b : Reading) : Type 0 where
-  pub tree : a.tree ≡ b.tree
-  pub missing : a.missing ≡ b.missing
-
-alone_static : (s : OpenForms) (t : Symbol) (v : List Symbol) → Alike (halt_static s (t ∷ v)) (halt_static s (t ∷ []))
-alone_static [] t v = record { tree = refl; missing = refl }
-alone_static (instance_of_open l ∷ s) t v = record { tree = refl; missing = refl }
-alone_static (f ∷ s) t v = record { tree = refl; missing = refl }
-
-alone_last : (t : Symbol) (v missing : List Symbol) → is_last (t ∷ v) missing ≡ is_last (t ∷ []) missing
-alone_last t v [] = refl
-alone_last t v (x ∷ xs) = refl
-
-alone_by : (b : Bool) (s : OpenForms) (t : Symbol) (v : List Symbol) → Alike (halt_yield b s (t ∷ v)) (halt_yield b s (t ∷ []))
-alone_by true s t v = record { tree = refl; missing = refl }
-alone_by false s t v = record { tree = refl; missing = refl }
-
-alone : (m : State) (t : Symbol) (v : List Symbol) → Alike (halt m (t ∷ v)) (halt m (t ∷ []))
-alone (past_static s) t v = alone_static s t v
-alone (past_yield s) t v =
-    subst (λ b. Alike (halt_yield b s (t ∷ v)) (halt_yield (is_last (t ∷ []) (missing_end s)) s (t ∷ []))) (sym (alone_last t v (missing_end s)))
-    (alone_by (is_last (t ∷ []) (missing_end s)) s t v)
-alone (expects s) t v = record { tree = refl; missing = refl }
-alone (holds e s) t v = record { tree = refl; missing = refl }
-alone (holds_call e s) t v = record { tree = refl; missing = refl }
-alone (due_enclosed enclosure s) t v = record { tree = refl; missing = refl }
-alone (due_listed listing s) t v = record { tree = refl; missing = refl }
-alone _ t v = record { tree = refl; missing = refl }
-
 whole_alone : (m : State) (t : Symbol) (v : List Symbol) → whole_before m t ≡ if_nothing (halt m (t ∷ v)).missing (halt m (t ∷ v)).tree
 whole_alone m t v =
-    let a : Alike (halt m (t ∷ v)) (halt m (t ∷ [])) = alone m t v in
+    let a : Alike (halt m (t ∷ v)) (halt m (t ∷ [])) = halts_alike m t v in
     ap (λ e. if_nothing (halt m (t ∷ [])).missing e) (sym a.tree) ∙ ap (λ u. if_nothing u (halt m (t ∷ v)).tree) (sym a.missing)
 
 -- ---- a machine that reads an expression

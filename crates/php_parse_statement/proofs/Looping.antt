@@ -11,7 +11,8 @@ use Rattle.php_ast.specs.expression.Placed.{size, noted, notes_of}
 use Rattle.php_ast.specs.statement.Tree.{Statement, while, do_while, if_only, if_else, ElseIfs, no_elseif, and_elseif, Body, single, list_behind_colon, Statements, no_statement}
 use Rattle.php_ast.specs.statement.View.{elseifs_from, if_view, optional}
 use Rattle.php_ast.specs.statement.Placed.{size_body, noted_body, size_statement, noted_statement, size_elseifs, noted_elseifs, size_head}
-use Rattle.php_grammar.specs.expression.Role.{paren, is_colon}
+use Rattle.php_grammar.specs.declared.closer.Closer.TheVariants as ender
+use Rattle.php_grammar.specs.expression.Role.{is_colon}
 use Rattle.php_grammar.specs.expression.Machine.{Nothing, Form, pick}
 use Rattle.php_grammar.specs.statement.Laws.{head_behind}
 use Rattle.php_grammar.specs.statement.Role.{Behind, by_else, by_elseif, by_while, by_endwhile, by_endfor, by_endforeach, behind, body_strength, ends_outside, Ending, closer}
@@ -27,8 +28,8 @@ use Rattle.php_parse_statement.proofs.Moves.{sticks, alike, move}
 
 -- ---- tests
 
-pub test_stuck : (head : Head) (e : Form) (o : Around) (x : Ending) → x ≢ closer paren → filled (as_test head) e o x ≡ None
-test_stuck head e o (closer paren) h = absurd (h refl)
+pub test_stuck : (head : Head) (e : Form) (o : Around) (x : Ending) → x ≢ closer ender.Paren → filled (as_test head) e o x ≡ None
+test_stuck head e o (closer ender.Paren) h = absurd (h refl)
 test_stuck head e o _ h = refl
 
 -- ---- the body of a loop

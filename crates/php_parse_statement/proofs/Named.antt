@@ -17,9 +17,9 @@ use Rattle.php_ast.specs.statement.Tree.{Sequence, empty, then_also, Name, Varia
 use Rattle.php_ast.specs.statement.View.{sequence_from, sequence}
 use Rattle.php_ast.specs.statement.Placed.{size_separated, noted_separated, size_name, noted_name, size_variable, noted_variable, size_constant, noted_constant}
 use Rattle.php_build.proofs.Views.{value_push}
+use Rattle.php_grammar.specs.declared.closer.Closer.TheVariants as ender
 use Rattle.php_grammar.specs.Run.{if_some}
 use Rattle.php_grammar.specs.TooDeep.{depth_inside}
-use Rattle.php_grammar.specs.expression.Role.{comma, semicolon}
 use Rattle.php_grammar.specs.expression.Machine.{Nothing, Form, State, past_static, advance, pick}
 use Rattle.php_grammar.specs.statement.Role.{at_statics, at_declare, statement_beginning, statement_keyword, statement_punct, Ending, closer, ending, left_paren, right_paren, is_fixed, is_assign, name_text, variable_text}
 use Rattle.php_grammar.specs.statement.Forms.{Around, as_line, as_static, as_constant, Names, of_globals, of_statics, of_constants, of_declare, StatementState, due_statement, done, due, due_name, past_name, due_int, past_static_word, in_expression}
@@ -75,23 +75,23 @@ name_halts {room} {w} names h = record { same = λ n o at. nameless n names o w 
 
 -- ---- global variables
 
-global_stuck : (names : Sequence (Name Nothing)) (a : Name Nothing) (o : Around) (t : Symbol) (x : Ending) → x ≢ closer comma → x ≢ closer semicolon → name_step (of_globals names) a o t x ≡ None
-global_stuck names a o t (closer comma) p q = absurd (p refl)
-global_stuck names a o t (closer semicolon) p q = absurd (q refl)
+global_stuck : (names : Sequence (Name Nothing)) (a : Name Nothing) (o : Around) (t : Symbol) (x : Ending) → x ≢ closer ender.Comma → x ≢ closer ender.Semicolon → name_step (of_globals names) a o t x ≡ None
+global_stuck names a o t (closer ender.Comma) p q = absurd (p refl)
+global_stuck names a o t (closer ender.Semicolon) p q = absurd (q refl)
 global_stuck names a o t _ p q = refl
 
-globals_lack : (n : ℕ) (names : Sequence (Name Nothing)) (a : Name Nothing) (o : Around) (w : List Symbol) → head_ending w ≢ closer comma → head_ending w ≢ closer semicolon → walk_statement n (past_name (of_globals names) a o) w ≡ short w
+globals_lack : (n : ℕ) (names : Sequence (Name Nothing)) (a : Name Nothing) (o : Around) (w : List Symbol) → head_ending w ≢ closer ender.Comma → head_ending w ≢ closer ender.Semicolon → walk_statement n (past_name (of_globals names) a o) w ≡ short w
 globals_lack n names a o [] p q = refl
 globals_lack n names a o (t ∷ w) p q = sticks n (past_name (of_globals names) a o) t w (global_stuck names a o t (ending t) p q)
 
-pub globals_halt : {room : ℕ} {w : List Symbol} (names : Sequence (Name Nothing)) (a : Name Nothing) → head_ending w ≢ closer comma → head_ending w ≢ closer semicolon → Halts false statement_depth room (λ o. past_name (of_globals names) a o) w w
+pub globals_halt : {room : ℕ} {w : List Symbol} (names : Sequence (Name Nothing)) (a : Name Nothing) → head_ending w ≢ closer ender.Comma → head_ending w ≢ closer ender.Semicolon → Halts false statement_depth room (λ o. past_name (of_globals names) a o) w w
 globals_halt {room} {w} names a p q = record { same = λ n o at. globals_lack n names a o w p q }
 
-pub globals_on : {room : ℕ} {x w : List Symbol} (names : Sequence (Name Nothing)) (a : Name Nothing) (t : Symbol) → x ≡ t ∷ w → ending t ≡ closer comma → 1 ≤ room
+pub globals_on : {room : ℕ} {x w : List Symbol} (names : Sequence (Name Nothing)) (a : Name Nothing) (t : Symbol) → x ≡ t ∷ w → ending t ≡ closer ender.Comma → 1 ≤ room
     → Leads statement_depth room (λ o. past_name (of_globals names) a o) x (λ o. due_name (of_globals (then_also names a)) o) w
 globals_on names a t is ends roomy = move t is (λ o. ap (name_step (of_globals names) a o t) ends) (λ n o at. omega arith)
 
-pub globals_end : {room : ℕ} {x w : List Symbol} (names : Sequence (Name Nothing)) (a : Name Nothing) (t : Symbol) → x ≡ t ∷ w → ending t ≡ closer semicolon → 1 ≤ room
+pub globals_end : {room : ℕ} {x w : List Symbol} (names : Sequence (Name Nothing)) (a : Name Nothing) (t : Symbol) → x ≡ t ∷ w → ending t ≡ closer ender.Semicolon → 1 ≤ room
     → Leads statement_depth room (λ o. past_name (of_globals names) a o) x (λ o. done (globals tt (then_also names a)) o) w
 globals_end names a t is ends roomy = move t is (λ o. ap (name_step (of_globals names) a o t) ends) (λ n o at. omega arith)
 
@@ -106,8 +106,8 @@ abbrev pub variable_of : Name Nothing → Option Form → Variable Nothing
 variable_of a value = record { name = a; value = value }
 
 bare_same : (xs : Sequence (Variable Nothing)) (a : Name Nothing) (o : Around) (t : Symbol) (x : Ending) → is_assign t ≡ false → name_step (of_statics xs) a o t x ≡ variable_step xs (variable_of a None) o x
-bare_same xs a o t (closer comma) h = refl
-bare_same xs a o t (closer semicolon) h = refl
+bare_same xs a o t (closer ender.Comma) h = refl
+bare_same xs a o t (closer ender.Semicolon) h = refl
 bare_same xs a o t _ h = ap (λ b. pick b (Some (expected (as_static xs a) o)) None) h
 
 pub bare_variable : (n : ℕ) (xs : Sequence (Variable Nothing)) (a : Name Nothing) (o : Around) (w : List Symbol) → test is_assign w ≡ false
@@ -126,8 +126,8 @@ variable_assigned xs a t is h roomy = move t is (λ o. assign_by xs a o t h) (λ
     assign_by xs a o _ h = cc
 
 valued_same : (xs : Sequence (Variable Nothing)) (a : Name Nothing) (e : Form) (o : Around) (x : Ending) → filled (as_static xs a) e o x ≡ variable_step xs (variable_of a (Some e)) o x
-valued_same xs a e o (closer comma) = refl
-valued_same xs a e o (closer semicolon) = refl
+valued_same xs a e o (closer ender.Comma) = refl
+valued_same xs a e o (closer ender.Semicolon) = refl
 valued_same xs a e o _ = refl
 
 pub valued_variable : (n : ℕ) (xs : Sequence (Variable Nothing)) (a : Name Nothing) (e : Form) (o : Around) (w : List Symbol) → walk_behind n (as_static xs a) e o w ≡ walk_variable n xs (variable_of a (Some e)) o w
@@ -196,18 +196,18 @@ variables_lead {room} {x} {w} {v} xs a t to roomy read is fills = record {
       ∙ ap (λ b. stepped (Some (to o)) b (λ m. walk_statement n m v) (short (t ∷ v)) (t ∷ v)) (le-ltb n (statement_depth o) (omega arith));
 }
 
-variable_stuck : (xs : Sequence (Variable Nothing)) (a : Variable Nothing) (o : Around) (x : Ending) → x ≢ closer comma → x ≢ closer semicolon → variable_step xs a o x ≡ None
-variable_stuck xs a o (closer comma) p q = absurd (p refl)
-variable_stuck xs a o (closer semicolon) p q = absurd (q refl)
+variable_stuck : (xs : Sequence (Variable Nothing)) (a : Variable Nothing) (o : Around) (x : Ending) → x ≢ closer ender.Comma → x ≢ closer ender.Semicolon → variable_step xs a o x ≡ None
+variable_stuck xs a o (closer ender.Comma) p q = absurd (p refl)
+variable_stuck xs a o (closer ender.Semicolon) p q = absurd (q refl)
 variable_stuck xs a o _ p q = refl
 
-variables_lack : (n : ℕ) (xs : Sequence (Variable Nothing)) (a : Variable Nothing) (o : Around) (w : List Symbol) → head_ending w ≢ closer comma → head_ending w ≢ closer semicolon → walk_variable n xs a o w ≡ short w
+variables_lack : (n : ℕ) (xs : Sequence (Variable Nothing)) (a : Variable Nothing) (o : Around) (w : List Symbol) → head_ending w ≢ closer ender.Comma → head_ending w ≢ closer ender.Semicolon → walk_variable n xs a o w ≡ short w
 variables_lack n xs a o [] p q = refl
 variables_lack n xs a o (t ∷ w) p q = ap (λ u. stepped u (nat_lt n (statement_depth o)) (λ m. walk_statement n m w) (short (t ∷ w)) (t ∷ w)) (variable_stuck xs a o (ending t) p q)
 
 pub variables_halt : {room : ℕ} {x w : List Symbol} (xs : Sequence (Variable Nothing)) (a : Variable Nothing)
     → ((n : ℕ) (o : Around) → statement_depth o + room ≡ suc n → walk_statement n (due_name (of_statics xs) o) x ≡ walk_variable n xs a o w)
-    → head_ending w ≢ closer comma → head_ending w ≢ closer semicolon → Halts false statement_depth room (λ o. due_name (of_statics xs) o) x w
+    → head_ending w ≢ closer ender.Comma → head_ending w ≢ closer ender.Semicolon → Halts false statement_depth room (λ o. due_name (of_statics xs) o) x w
 variables_halt {room} {x} {w} xs a read p q = record { same = λ n o at. read n o at ∙ variables_lack n xs a o w p q }
 
 pub statics_spans : (tokens : List Token) (made : Statement Note) (spot : Note) (shown : Sequence (Variable Note)) (xs : Sequence (Variable Nothing)) (at next : ℕ) → made ≡ statics spot shown → spot ≡ (notes_of tokens).token at
@@ -238,18 +238,18 @@ constants_lead {room} {x} {w} {v} xs a t to roomy read is fills = record {
       ∙ ap (λ b. stepped (Some (to o)) b (λ m. walk_statement n m v) (short (t ∷ v)) (t ∷ v)) (le-ltb n (statement_depth o) (omega arith));
 }
 
-constant_stuck : (xs : Sequence (Constant Nothing)) (a : Name Nothing) (e : Form) (o : Around) (x : Ending) → x ≢ closer comma → x ≢ closer semicolon → filled (as_constant xs a) e o x ≡ None
-constant_stuck xs a e o (closer comma) p q = absurd (p refl)
-constant_stuck xs a e o (closer semicolon) p q = absurd (q refl)
+constant_stuck : (xs : Sequence (Constant Nothing)) (a : Name Nothing) (e : Form) (o : Around) (x : Ending) → x ≢ closer ender.Comma → x ≢ closer ender.Semicolon → filled (as_constant xs a) e o x ≡ None
+constant_stuck xs a e o (closer ender.Comma) p q = absurd (p refl)
+constant_stuck xs a e o (closer ender.Semicolon) p q = absurd (q refl)
 constant_stuck xs a e o _ p q = refl
 
-constants_lack : (n : ℕ) (xs : Sequence (Constant Nothing)) (a : Constant Nothing) (o : Around) (w : List Symbol) → head_ending w ≢ closer comma → head_ending w ≢ closer semicolon → walk_behind n (as_constant xs a.name) a.value o w ≡ short w
+constants_lack : (n : ℕ) (xs : Sequence (Constant Nothing)) (a : Constant Nothing) (o : Around) (w : List Symbol) → head_ending w ≢ closer ender.Comma → head_ending w ≢ closer ender.Semicolon → walk_behind n (as_constant xs a.name) a.value o w ≡ short w
 constants_lack n xs a o [] p q = refl
 constants_lack n xs a o (t ∷ w) p q = ap (λ u. stepped u (nat_lt n (statement_depth o)) (λ m. walk_statement n m w) (short (t ∷ w)) (t ∷ w)) (constant_stuck xs a.name a.value o (ending t) p q)
 
 pub constants_halt : {room : ℕ} {x w : List Symbol} (xs : Sequence (Constant Nothing)) (a : Constant Nothing)
     → ((n : ℕ) (o : Around) → statement_depth o + room ≡ suc n → walk_statement n (due_name (of_constants xs) o) x ≡ walk_behind n (as_constant xs a.name) a.value o w)
-    → head_ending w ≢ closer comma → head_ending w ≢ closer semicolon → Halts false statement_depth room (λ o. due_name (of_constants xs) o) x w
+    → head_ending w ≢ closer ender.Comma → head_ending w ≢ closer ender.Semicolon → Halts false statement_depth room (λ o. due_name (of_constants xs) o) x w
 constants_halt {room} {x} {w} xs a read p q = record { same = λ n o at. read n o at ∙ constants_lack n xs a o w p q }
 
 pub constants_spans : (tokens : List Token) (made : Statement Note) (spot : Note) (shown : Sequence (Constant Note)) (xs : Sequence (Constant Nothing)) (at next : ℕ) → made ≡ constants spot shown → spot ≡ (notes_of tokens).token at

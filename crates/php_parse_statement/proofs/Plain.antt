@@ -8,9 +8,9 @@ use Rattle.php_ast.specs.expression.Tree.{Tree, Items, none}
 use Rattle.php_ast.specs.expression.View.{Note}
 use Rattle.php_ast.specs.expression.Placed.{size_items, noted_items, notes_of}
 use Rattle.php_ast.specs.statement.Tree.{Statement, Jump, blank, inline, expression, echo, unset, jump, throw}
+use Rattle.php_grammar.specs.declared.closer.Closer.TheVariants as ender
 use Rattle.php_grammar.specs.Run.{either, if_some, whole_before}
 use Rattle.php_grammar.specs.TooDeep.{depth_inside}
-use Rattle.php_grammar.specs.expression.Role.{paren, comma, semicolon}
 use Rattle.php_grammar.specs.expression.Machine.{Nothing, Form, State, expects, advance, pick}
 use Rattle.php_grammar.specs.statement.Role.{StatementBeginning, at_expression, statement_beginning, Ending, closer, ending, is_semicolon}
 use Rattle.php_grammar.specs.statement.Forms.{Around, Values, of_echo, of_unset, as_line, as_value, as_jump, as_thrown, ExpressionPlace, StatementState, due_statement, done, in_expression, past_jump}
@@ -69,26 +69,26 @@ jump_ends kind t is h roomy = move t is (λ o. ap (λ b. pick b (Some (done (jum
 
 -- ---- what doesn't end an expression
 
-pub line_stuck : (e : Form) (o : Around) (x : Ending) → x ≢ closer semicolon → filled as_line e o x ≡ None
-line_stuck e o (closer semicolon) h = absurd (h refl)
+pub line_stuck : (e : Form) (o : Around) (x : Ending) → x ≢ closer ender.Semicolon → filled as_line e o x ≡ None
+line_stuck e o (closer ender.Semicolon) h = absurd (h refl)
 line_stuck e o _ h = refl
 
-pub jump_stuck : (kind : Jump) (e : Form) (o : Around) (x : Ending) → x ≢ closer semicolon → filled (as_jump kind) e o x ≡ None
-jump_stuck kind e o (closer semicolon) h = absurd (h refl)
+pub jump_stuck : (kind : Jump) (e : Form) (o : Around) (x : Ending) → x ≢ closer ender.Semicolon → filled (as_jump kind) e o x ≡ None
+jump_stuck kind e o (closer ender.Semicolon) h = absurd (h refl)
 jump_stuck kind e o _ h = refl
 
-pub thrown_stuck : (e : Form) (o : Around) (x : Ending) → x ≢ closer semicolon → filled as_thrown e o x ≡ None
-thrown_stuck e o (closer semicolon) h = absurd (h refl)
+pub thrown_stuck : (e : Form) (o : Around) (x : Ending) → x ≢ closer ender.Semicolon → filled as_thrown e o x ≡ None
+thrown_stuck e o (closer ender.Semicolon) h = absurd (h refl)
 thrown_stuck e o _ h = refl
 
-pub echo_stuck : (items : Items Nothing) (e : Form) (o : Around) (x : Ending) → x ≢ closer comma → x ≢ closer semicolon → filled (as_value of_echo items) e o x ≡ None
-echo_stuck items e o (closer comma) a b = absurd (a refl)
-echo_stuck items e o (closer semicolon) a b = absurd (b refl)
+pub echo_stuck : (items : Items Nothing) (e : Form) (o : Around) (x : Ending) → x ≢ closer ender.Comma → x ≢ closer ender.Semicolon → filled (as_value of_echo items) e o x ≡ None
+echo_stuck items e o (closer ender.Comma) a b = absurd (a refl)
+echo_stuck items e o (closer ender.Semicolon) a b = absurd (b refl)
 echo_stuck items e o _ a b = refl
 
-pub unset_stuck : (items : Items Nothing) (e : Form) (o : Around) (x : Ending) → x ≢ closer comma → x ≢ closer paren → filled (as_value of_unset items) e o x ≡ None
-unset_stuck items e o (closer comma) a b = absurd (a refl)
-unset_stuck items e o (closer paren) a b = absurd (b refl)
+pub unset_stuck : (items : Items Nothing) (e : Form) (o : Around) (x : Ending) → x ≢ closer ender.Comma → x ≢ closer ender.Paren → filled (as_value of_unset items) e o x ≡ None
+unset_stuck items e o (closer ender.Comma) a b = absurd (a refl)
+unset_stuck items e o (closer ender.Paren) a b = absurd (b refl)
 unset_stuck items e o _ a b = refl
 
 -- ---- behind values

@@ -7,7 +7,7 @@ use Rattle.php_ast.specs.declared.spot.Name as rust_name
 use Rattle.php_ast.specs.Symbol as symbol
 use Rattle.php_ast.specs.Symbol.{Symbol, keyword}
 use Rattle.php_ast.specs.expression.Placed.{notes_of}
-use Rattle.php_grammar.specs.expression.Role as role
+use Rattle.php_grammar.specs.declared.closer.Closer.{Closer}
 use Rattle.php_grammar.specs.expression.Role.{Beginning, at_leaf, at_static, at_template, at_exit, at_new, at_yield, at_enclosed, at_listed, at_prefix, at_nothing, beginning, Continuation, draws, closes, neither, continuation, continuation_keyword}
 use Rattle.php_grammar.specs.expression.Laws.{head_continuation}
 use Rattle.php_grammar.specs.statement.Role.{closer, as_word, ending, ending_of}
@@ -19,35 +19,35 @@ use Rattle.php_parse_statement.specs.Walk.{head_ending, sunk, sunk_here}
 
 -- ---- endings
 
-no_keyword : (k : Keyword) (c : role.Closer) → continuation_keyword k ≡ closes c → ⊥
+no_keyword : (k : Keyword) (c : Closer) → continuation_keyword k ≡ closes c → ⊥
 no_keyword word.InstanceOf c h = cc
 no_keyword _ c h = cc
 
-closes_by : (x : Continuation) (c : role.Closer) → ending_of x ≡ closer c → x ≡ closes c
+closes_by : (x : Continuation) (c : Closer) → ending_of x ≡ closer c → x ≡ closes c
 closes_by (closes d) c h = cc
 closes_by (draws d) c h = cc
 closes_by neither c h = cc
 
-keyword_ending : (k : Keyword) (c : role.Closer) → ending (keyword k) ≡ closer c → continuation (keyword k) ≡ closes c
+keyword_ending : (k : Keyword) (c : Closer) → ending (keyword k) ≡ closer c → continuation (keyword k) ≡ closes c
 keyword_ending word.As c h = cc
 keyword_ending _ c h = cc
 
-pub ending_closes : (t : Symbol) (c : role.Closer) → continuation t ≡ closes c → ending t ≡ closer c
+pub ending_closes : (t : Symbol) (c : Closer) → continuation t ≡ closes c → ending t ≡ closer c
 ending_closes (keyword k) c h = absurd (no_keyword k c h)
 ending_closes (symbol.punct p) c h = ap ending_of h
 ending_closes symbol.end_part c h = ap ending_of h
 ending_closes _ c h = cc
 
-pub ending_closed : (t : Symbol) (c : role.Closer) → ending t ≡ closer c → continuation t ≡ closes c
+pub ending_closed : (t : Symbol) (c : Closer) → ending t ≡ closer c → continuation t ≡ closes c
 ending_closed (keyword k) c h = keyword_ending k c h
 ending_closed (symbol.punct p) c h = closes_by (continuation (symbol.punct p)) c h
 ending_closed symbol.end_part c h = closes_by (continuation symbol.end_part) c h
 ending_closed _ c h = cc
 
-pub shows_ending : (tokens : List Token) (at : ℕ) (c : role.Closer) → Shows continuation tokens at (closes c) → Shows ending tokens at (closer c)
+pub shows_ending : (tokens : List Token) (at : ℕ) (c : Closer) → Shows continuation tokens at (closes c) → Shows ending tokens at (closer c)
 shows_ending tokens at c h = record { token = h.token; stands = h.stands; role_is = ending_closes h.token c h.role_is }
 
-pub no_ending_here : (w : List Symbol) (c : role.Closer) → head_continuation w ≢ closes c → head_ending w ≢ closer c
+pub no_ending_here : (w : List Symbol) (c : Closer) → head_continuation w ≢ closes c → head_ending w ≢ closer c
 no_ending_here [] c h e = cc
 no_ending_here (t ∷ w) c h e = h (ending_closed t c e)
 

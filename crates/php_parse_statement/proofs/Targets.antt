@@ -9,9 +9,10 @@ use Rattle.php_ast.specs.expression.View.{Note}
 use Rattle.php_ast.specs.expression.Placed.{size, size_items, noted, noted_items, notes_of}
 use Rattle.php_ast.specs.statement.Tree.{Statement, Target, Body, for, foreach}
 use Rattle.php_ast.specs.statement.Placed.{size_key, size_target, size_body, noted_key, noted_target, noted_body}
+use Rattle.php_grammar.specs.declared.closer.Closer.{Closer}
+use Rattle.php_grammar.specs.declared.closer.Closer.TheVariants as ender
 use Rattle.php_grammar.specs.Run.{either}
-use Rattle.php_grammar.specs.expression.Role as role
-use Rattle.php_grammar.specs.expression.Role.{paren, comma, semicolon, double_arrow, is_ampersand}
+use Rattle.php_grammar.specs.expression.Role.{is_ampersand}
 use Rattle.php_grammar.specs.expression.Machine.{Nothing, Form, expects, pick}
 use Rattle.php_grammar.specs.statement.Role.{Ending, closer, as_word, no_ending, ending}
 use Rattle.php_grammar.specs.statement.Forms.{Values, of_echo, of_starts, of_tests, of_steps, for_loop, as_value, as_walked, as_first, as_second, due_value, past_as, past_key, past_loop, Around, ExpressionPlace, StatementState}
@@ -80,13 +81,13 @@ pub walked_stuck : (e : Form) (o : Around) (x : Ending) → x ≢ as_word → fi
 walked_stuck e o as_word h = absurd (h refl)
 walked_stuck e o _ h = refl
 
-pub first_stuck : (walked : Form) (b : Bool) (e : Form) (o : Around) (x : Ending) → x ≢ closer paren → x ≢ closer double_arrow → filled (as_first walked b) e o x ≡ None
-first_stuck walked b e o (closer paren) p q = absurd (p refl)
-first_stuck walked b e o (closer double_arrow) p q = absurd (q refl)
+pub first_stuck : (walked : Form) (b : Bool) (e : Form) (o : Around) (x : Ending) → x ≢ closer ender.Paren → x ≢ closer ender.DoubleArrow → filled (as_first walked b) e o x ≡ None
+first_stuck walked b e o (closer ender.Paren) p q = absurd (p refl)
+first_stuck walked b e o (closer ender.DoubleArrow) p q = absurd (q refl)
 first_stuck walked b e o _ p q = refl
 
-pub second_stuck : (walked : Form) (key : Target Nothing) (b : Bool) (e : Form) (o : Around) (x : Ending) → x ≢ closer paren → filled (as_second walked key b) e o x ≡ None
-second_stuck walked key b e o (closer paren) p = absurd (p refl)
+pub second_stuck : (walked : Form) (key : Target Nothing) (b : Bool) (e : Form) (o : Around) (x : Ending) → x ≢ closer ender.Paren → filled (as_second walked key b) e o x ≡ None
+second_stuck walked key b e o (closer ender.Paren) p = absurd (p refl)
 second_stuck walked key b e o _ p = refl
 
 -- ---- notes
@@ -130,12 +131,12 @@ values_some _ w = tt
 value_lacks : (values : Values) (o : Around) (w : List Symbol) → outcome (halt_statement (due_value values o) w) ≡ short w
 value_lacks values o w = lacks_by (values_rest values (missing_around o)) (completed_around o (values_statement values none)) w (values_some values (missing_around o))
 
-none_step : (values : Values) (end : role.Closer) (to : Items Nothing → Around → StatementState) (t : Symbol) → IsEnded values end to → ending t ≡ closer end → (o : Around) → advance_statement (due_value values o) t ≡ Some (to none o)
+none_step : (values : Values) (end : Closer) (to : Items Nothing → Around → StatementState) (t : Symbol) → IsEnded values end to → ending t ≡ closer end → (o : Around) → advance_statement (due_value values o) t ≡ Some (to none o)
 none_step values end to t is ends o =
     ap (λ z. either (values_step values none o z) (entered (as_value values none) o t)) ends ∙ ap (λ u. either u (entered (as_value values none) o t)) (is.closes none o)
 
 -- no value, in front of what ends the list
-pub none_ends : {room : ℕ} {x w : List Symbol} (values : Values) (end : role.Closer) (to : Items Nothing → Around → StatementState) (t : Symbol) → IsEnded values end to → x ≡ t ∷ w → ending t ≡ closer end → 1 ≤ room
+pub none_ends : {room : ℕ} {x w : List Symbol} (values : Values) (end : Closer) (to : Items Nothing → Around → StatementState) (t : Symbol) → IsEnded values end to → x ≡ t ∷ w → ending t ≡ closer end → 1 ≤ room
     → Leads (λ o. 1 + statement_depth o) room (λ o. due_value values o) x (λ o. to none o) w
 none_ends {room} {x} {w} values end to t is here ends roomy = record {
   same = λ n o at.
@@ -143,7 +144,7 @@ none_ends {room} {x} {w} values end to t is here ends roomy = record {
       ∙ moves n (due_value values o) (to none o) t w (none_step values end to t is ends o) (omega (arith, is.inside (statement_depth o)));
 }
 
-pub none_sinks : {room : ℕ} {x w : List Symbol} (values : Values) (end : role.Closer) (to : Items Nothing → Around → StatementState) (t : Symbol) → IsEnded values end to → x ≡ t ∷ w → ending t ≡ closer end → room ≡ 0
+pub none_sinks : {room : ℕ} {x w : List Symbol} (values : Values) (end : Closer) (to : Items Nothing → Around → StatementState) (t : Symbol) → IsEnded values end to → x ≡ t ∷ w → ending t ≡ closer end → room ≡ 0
     → Halts true (λ o. 1 + statement_depth o) room (λ o. due_value values o) x x
 none_sinks {room} {x} {w} values end to t is here ends none_left = record {
   same = λ n o at.
@@ -152,54 +153,54 @@ none_sinks {room} {x} {w} values end to t is here ends none_left = record {
       ∙ ap deep (sym here);
 }
 
-unstepped : (values : Values) (end : role.Closer) (to : Items Nothing → Around → StatementState) (o : Around) (x : Ending) → IsEnded values end to → x ≢ closer end → values_step values none o x ≡ None
+unstepped : (values : Values) (end : Closer) (to : Items Nothing → Around → StatementState) (o : Around) (x : Ending) → IsEnded values end to → x ≢ closer end → values_step values none o x ≡ None
 unstepped values end to o (closer c) is h = is.only none o c (λ e. h (ap closer e))
 unstepped values end to o as_word is h = refl
 unstepped values end to o no_ending is h = refl
 
-value_in : (n : ℕ) (values : Values) (end : role.Closer) (to : Items Nothing → Around → StatementState) (o : Around) (w : List Symbol) → IsEnded values end to → head_ending w ≢ closer end
+value_in : (n : ℕ) (values : Values) (end : Closer) (to : Items Nothing → Around → StatementState) (o : Around) (w : List Symbol) → IsEnded values end to → head_ending w ≢ closer end
     → walk_statement n (due_value values o) w ≡ walk_statement n (expected (as_value values none) o) w
 value_in n values end to o [] is h = value_lacks values o [] ∙ sym (place_lacks (as_value values none) o (expects []) [])
 value_in n values end to o (t ∷ w) is h =
     enters n (due_value values o) (as_value values none) o t w (ap (λ u. either u (entered (as_value values none) o t)) (unstepped values end to o (ending t) is h)) refl (value_lacks values o (t ∷ w))
 
-pub value_due : {room : ℕ} {w : List Symbol} (values : Values) (end : role.Closer) (to : Items Nothing → Around → StatementState) → IsEnded values end to → head_ending w ≢ closer end
+pub value_due : {room : ℕ} {w : List Symbol} (values : Values) (end : Closer) (to : Items Nothing → Around → StatementState) → IsEnded values end to → head_ending w ≢ closer end
     → Leads (λ o. 1 + statement_depth o) room (λ o. due_value values o) w (λ o. expected (as_value values none) o) w
 value_due {room} {w} values end to is h = record { same = λ n o at. value_in n values end to o w is h }
 
-filled_end : (values : Values) (items : Items Nothing) (e : Form) (o : Around) (c : role.Closer) → c ≢ comma → filled (as_value values items) e o (closer c) ≡ values_end values (and items plain e) o c
-filled_end values items e o comma h = absurd (h refl)
+filled_end : (values : Values) (items : Items Nothing) (e : Form) (o : Around) (c : Closer) → c ≢ ender.Comma → filled (as_value values items) e o (closer c) ≡ values_end values (and items plain e) o c
+filled_end values items e o ender.Comma h = absurd (h refl)
 filled_end values items e o _ h = refl
 
-pub ended_fills : (values : Values) (end : role.Closer) (to : Items Nothing → Around → StatementState) (items : Items Nothing) (e : Form) (o : Around) (t : Symbol) → IsEnded values end to → end ≢ comma → ending t ≡ closer end
+pub ended_fills : (values : Values) (end : Closer) (to : Items Nothing → Around → StatementState) (items : Items Nothing) (e : Form) (o : Around) (t : Symbol) → IsEnded values end to → end ≢ ender.Comma → ending t ≡ closer end
     → filled (as_value values items) e o (ending t) ≡ Some (to (and items plain e) o)
 ended_fills values end to items e o t is other ends = ap (filled (as_value values items) e o) ends ∙ filled_end values items e o end other ∙ is.closes (and items plain e) o
 
-pub ended_stuck : (values : Values) (end : role.Closer) (to : Items Nothing → Around → StatementState) (items : Items Nothing) (e : Form) (o : Around) (x : Ending) → IsEnded values end to → x ≢ closer comma → x ≢ closer end
+pub ended_stuck : (values : Values) (end : Closer) (to : Items Nothing → Around → StatementState) (items : Items Nothing) (e : Form) (o : Around) (x : Ending) → IsEnded values end to → x ≢ closer ender.Comma → x ≢ closer end
     → filled (as_value values items) e o x ≡ None
 ended_stuck values end to items e o (closer c) is a b = filled_end values items e o c (λ h. a (ap closer h)) ∙ is.only (and items plain e) o c (λ h. b (ap closer h))
 ended_stuck values end to items e o as_word is a b = refl
 ended_stuck values end to items e o no_ending is a b = refl
 
-starts_only : (items : Items Nothing) (o : Around) (c : role.Closer) → c ≢ semicolon → values_end of_starts items o c ≡ None
-starts_only items o semicolon h = absurd (h refl)
+starts_only : (items : Items Nothing) (o : Around) (c : Closer) → c ≢ ender.Semicolon → values_end of_starts items o c ≡ None
+starts_only items o ender.Semicolon h = absurd (h refl)
 starts_only items o _ h = refl
 
-tests_only : (starts items : Items Nothing) (o : Around) (c : role.Closer) → c ≢ semicolon → values_end (of_tests starts) items o c ≡ None
-tests_only starts items o semicolon h = absurd (h refl)
+tests_only : (starts items : Items Nothing) (o : Around) (c : Closer) → c ≢ ender.Semicolon → values_end (of_tests starts) items o c ≡ None
+tests_only starts items o ender.Semicolon h = absurd (h refl)
 tests_only starts items o _ h = refl
 
-steps_only : (starts tests items : Items Nothing) (o : Around) (c : role.Closer) → c ≢ paren → values_end (of_steps starts tests) items o c ≡ None
-steps_only starts tests items o paren h = absurd (h refl)
+steps_only : (starts tests items : Items Nothing) (o : Around) (c : Closer) → c ≢ ender.Paren → values_end (of_steps starts tests) items o c ≡ None
+steps_only starts tests items o ender.Paren h = absurd (h refl)
 steps_only starts tests items o _ h = refl
 
-pub starts_ended : IsEnded of_starts semicolon (λ items o. due_value (of_tests items) o)
+pub starts_ended : IsEnded of_starts ender.Semicolon (λ items o. due_value (of_tests items) o)
 starts_ended = record { closes = λ items o. refl; only = λ items o c h. starts_only items o c h; inside = λ d. refl }
 
-pub tests_ended : (starts : Items Nothing) → IsEnded (of_tests starts) semicolon (λ items o. due_value (of_steps starts items) o)
+pub tests_ended : (starts : Items Nothing) → IsEnded (of_tests starts) ender.Semicolon (λ items o. due_value (of_steps starts items) o)
 tests_ended starts = record { closes = λ items o. refl; only = λ items o c h. tests_only starts items o c h; inside = λ d. refl }
 
-pub steps_ended : (starts tests : Items Nothing) → IsEnded (of_steps starts tests) paren (λ items o. past_loop (for_loop starts tests items) o)
+pub steps_ended : (starts tests : Items Nothing) → IsEnded (of_steps starts tests) ender.Paren (λ items o. past_loop (for_loop starts tests items) o)
 steps_ended starts tests = record { closes = λ items o. refl; only = λ items o c h. steps_only starts tests items o c h; inside = λ d. refl }
 
 -- one level further out

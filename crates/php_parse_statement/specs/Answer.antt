@@ -11,7 +11,7 @@ use Rattle.php_ast.specs.expression.Placed.{size_items, noted_items, comma_size,
 use Rattle.php_ast.specs.statement.Tree.{Statement}
 use Rattle.php_ast.specs.statement.View.{name_view, statement_view}
 use Rattle.php_ast.specs.statement.Placed.{size_statement, noted_name, noted_statement}
-use Rattle.php_grammar.specs.expression.Role as role
+use Rattle.php_grammar.specs.declared.closer.Closer.TheVariants as ender
 use Rattle.php_grammar.specs.expression.Machine.{Nothing, Form}
 use Rattle.php_grammar.specs.statement.Role.{closer}
 use Rattle.php_grammar.specs.statement.Forms.{Around, Values, as_line, as_value, StatementState, due_statement, done}
@@ -120,7 +120,7 @@ pub record FoundValues (room : ℕ) (tokens : List Token) (at : ℕ) (r : Listed
   pub sized : at + size_items (tree.and items tree.plain last) ≡ r.next
   pub reads : (values : Values) (n : ℕ) (o : Around) → values_depth values (statement_depth o) + room ≡ suc n
       → walk_statement n (expected (as_value values tree.none) o) (rest tokens at) ≡ walk_behind n (as_value values items) last o (rest tokens r.next)
-  pub no_comma : head_ending (rest tokens r.next) ≢ closer role.comma
+  pub no_comma : head_ending (rest tokens r.next) ≢ closer ender.Comma
   pub ahead : at < r.next
   pub within : r.next ≤ length tokens
   pub some : 1 ≤ room

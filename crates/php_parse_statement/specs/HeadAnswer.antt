@@ -6,7 +6,7 @@ use Rattle.php_ast.specs.declared.expression.Expr.{Expr}
 use Rattle.php_ast.specs.declared.statement.ForHead.{ForHead}
 use Rattle.php_ast.specs.declared.statement.ForeachHead.{ForeachHead}
 use Rattle.php_ast.specs.expression.Tree as tree
-use Rattle.php_grammar.specs.expression.Role as role
+use Rattle.php_grammar.specs.declared.closer.Closer.{Closer}
 use Rattle.php_parse_statement.specs.declared.read.Listed.{Listed}
 use Rattle.php_ast.specs.Symbol.{Symbol}
 use Rattle.php_ast.specs.expression.View.{view, values_from}
@@ -89,13 +89,13 @@ AnswersForeachHead reader at (Err e) = Fails statement_depth reader.room (λ o. 
 -- ---- a list of a `for`
 
 -- Values in parentheses that one token ends, and no other but a comma, and where that leads.
-pub record IsEnded (values : Values) (end : role.Closer) (to : tree.Items Nothing → Around → StatementState) : Type 0 where
+pub record IsEnded (values : Values) (end : Closer) (to : tree.Items Nothing → Around → StatementState) : Type 0 where
   pub closes : (items : tree.Items Nothing) (o : Around) → values_end values items o end ≡ Some (to items o)
-  pub only : (items : tree.Items Nothing) (o : Around) (c : role.Closer) → c ≢ end → values_end values items o c ≡ None
+  pub only : (items : tree.Items Nothing) (o : Around) (c : Closer) → c ≢ end → values_end values items o c ≡ None
   pub inside : (d : ℕ) → values_depth values d ≡ 1 + d
 
 -- in parentheses in which so many levels are left
-pub record FoundValueList (end : role.Closer) (room : ℕ) (tokens : List Token) (at : ℕ) (r : Listed Expr) : Type 0 where
+pub record FoundValueList (end : Closer) (room : ℕ) (tokens : List Token) (at : ℕ) (r : Listed Expr) : Type 0 where
   pub items : tree.Items Nothing
   pub shown : values_from tree.none (map view r.items) ≡ noted_items (notes_of tokens) at items
   pub sized : at + size_items items + 1 ≡ r.next
@@ -103,7 +103,7 @@ pub record FoundValueList (end : role.Closer) (room : ℕ) (tokens : List Token)
       → Leads (λ o. 1 + statement_depth o) room (λ o. due_value values o) (rest tokens at) (λ o. to items o) (rest tokens r.next)
   pub within : r.next ≤ length tokens
 
-abbrev pub AnswersValueList : role.Closer → Reader → ℕ → Result (Listed Expr) Stop → Type 0
+abbrev pub AnswersValueList : Closer → Reader → ℕ → Result (Listed Expr) Stop → Type 0
 AnswersValueList end reader at (Ok r) = FoundValueList end reader.room reader.tokens.now at r
 AnswersValueList end reader at (Err e) = (values : Values) (to : tree.Items Nothing → Around → StatementState) → IsEnded values end to
     → Fails (λ o. 1 + statement_depth o) reader.room (λ o. due_value values o) (rest reader.tokens.now at) reader.tokens.now at e

@@ -9,7 +9,7 @@ use Rattle.php_ast.specs.expression.Placed.{notes_of}
 use Rattle.php_ast.specs.statement.Tree.{Sequence, then_also, Name, Variable, Constant, statics}
 use Rattle.php_ast.specs.statement.View.{sequence, name_view, variable_view, constant_view}
 use Rattle.php_ast.specs.statement.Placed.{size_separated, size_separator, noted_separated, size_name, noted_name, size_variable, noted_variable, size_constant, noted_constant}
-use Rattle.php_grammar.specs.expression.Role.{comma, semicolon}
+use Rattle.php_grammar.specs.declared.closer.Closer.TheVariants as ender
 use Rattle.php_grammar.specs.expression.Machine.{Nothing}
 use Rattle.php_grammar.specs.statement.Role.{Ending, closer, ending}
 use Rattle.php_grammar.specs.statement.Forms.{Around, as_constant, of_globals, of_statics, of_constants, StatementState, due_statement, done, due_name}
@@ -37,8 +37,8 @@ pub record GlobalsSoFar (room : ℕ) (tokens : List Token) (at : ℕ) (xs : List
 -- ---- a static variable
 
 abbrev pub variable_step : Sequence (Variable Nothing) → Variable Nothing → Around → Ending → Option StatementState
-variable_step xs x o (closer comma) = Some (due_name (of_statics (then_also xs x)) o)
-variable_step xs x o (closer semicolon) = Some (done (statics tt (then_also xs x)) o)
+variable_step xs x o (closer ender.Comma) = Some (due_name (of_statics (then_also xs x)) o)
+variable_step xs x o (closer ender.Semicolon) = Some (done (statics tt (then_also xs x)) o)
 variable_step xs x o _ = None
 
 -- behind a static variable with its value, or with none

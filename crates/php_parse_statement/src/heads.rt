@@ -1,8 +1,7 @@
 // What stands in parentheses behind the word of a form.
 
 ghost use Rattle.std.specs.Prelude.{◌≢◌, ◌≤◌, length};
-ghost use Rattle.php_grammar.specs.expression.Role.{comma};
-ghost use Rattle.php_reader.specs.RoleView.{closer_view};
+ghost use Rattle.php_grammar.specs.declared.closer.Closer.TheVariants as ender;
 ghost use Rattle.php_parse_statement.specs.FormAnswer.{AnswersTest};
 ghost use Rattle.php_parse_statement.specs.HeadAnswer.{AnswersForHead, AnswersForeachHead, AnswersTarget, AnswersTurn, AnswersValueList};
 
@@ -12,8 +11,8 @@ use crate::read::{Entry, Listed, Turn, discard, let_go, unclosed, unended};
 use crate::role::Fixed;
 use crate::values::values;
 use php_ast::{Expr, ForHead, ForeachHead, Target};
+use php_grammar::Closer;
 use php_reader::look::sees_ampersand;
-use php_reader::role::Closer;
 use php_reader::{Reader, Stop};
 use sqlite_items::Items;
 
@@ -135,8 +134,8 @@ pub(crate) fn foreach_head(reader: &Reader, at: usize) -> Result<Entry<ForeachHe
 /// parentheses.
 fn value_list(reader: &Reader, at: usize, end: Closer) -> Result<Listed<Expr>, Stop>
     requires within { at ≤ length reader.now.tokens.now }
-    requires other { closer_view end ≢ comma }
-    ensures { AnswersValueList (closer_view end) reader.entry.now at result }
+    requires other { end ≢ ender.Comma }
+    ensures { AnswersValueList end reader.entry.now at result }
 {
     if ends(reader.tokens, at, end) {
         if reader.room == 0 {

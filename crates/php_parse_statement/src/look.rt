@@ -8,7 +8,6 @@ ghost use Rattle.php_grammar.specs.statement.Role.{as_word, behind, ending, is_f
 ghost use Rattle.php_grammar.specs.statement.Laws.{head_behind};
 ghost use Rattle.php_parse_statement.specs.declared.role.After.TheVariants.{Other};
 ghost use Rattle.php_reader.specs.Seen.{Shows, Stands, Tests, rest};
-ghost use Rattle.php_reader.specs.RoleView.{closer_view};
 ghost use Rattle.php_parse_statement.specs.Answer.{ShowsName};
 ghost use Rattle.php_parse_statement.specs.RoleView.{StandsBehind, StartsStatement, after_view, begun_view, fixed_view, is_variable_symbol, ShowsInt, ends_list};
 ghost use Rattle.php_parse_statement.specs.Walk.{head_ending};
@@ -19,9 +18,9 @@ use crate::role::{
 };
 use php_ast::Name;
 use php_base::NoMemory;
+use php_grammar::Closer;
 use php_lex::{TokenKind, Tokens};
 use php_reader::look::{ends_with, name_at};
-use php_reader::role::Closer;
 use std::alloc::Global;
 
 /// Whether there is a token at a place.
@@ -80,8 +79,8 @@ pub(crate) fn sees(tokens: &Tokens, at: usize, fixed: Fixed) -> bool
 
 /// Whether this token stands at a place, behind an expression.
 pub(crate) fn ends(tokens: &Tokens, at: usize, closer: Closer) -> bool
-    ensures yes { result ≡ true → Shows ending tokens.now at (role.closer (closer_view closer)) }
-    ensures no { result ≡ false → head_ending (rest tokens.now at) ≢ role.closer (closer_view closer) }
+    ensures yes { result ≡ true → Shows ending tokens.now at (role.closer closer) }
+    ensures no { result ≡ false → head_ending (rest tokens.now at) ≢ role.closer closer }
 {
     ends_with(tokens, at, closer)
 }

@@ -14,8 +14,8 @@ use crate::read::{Entry, ReadStatement};
 use crate::role::Fixed;
 use crate::simple::line;
 use php_ast::{ConstantItem, VariableItem};
+use php_grammar::Closer;
 use php_reader::look::spot;
-use php_reader::role::Closer;
 use php_reader::{Reader, Stop};
 use sqlite_items::Items;
 

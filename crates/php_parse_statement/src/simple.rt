@@ -17,8 +17,8 @@ use crate::look::{ends, sees};
 use crate::read::{ReadStatement, discard, unclosed};
 use crate::role::{Fixed, JumpKind};
 use crate::values::values;
+use php_grammar::Closer;
 use php_reader::look::{spot, text_at};
-use php_reader::role::Closer;
 use php_reader::{Reader, Stop};
 
 /// `;`

@@ -7,8 +7,8 @@ use crate::expression::expression;
 use crate::look::ends;
 use crate::read::Listed;
 use php_ast::Expr;
+use php_grammar::Closer;
 use php_parse_body::Read;
-use php_reader::role::Closer;
 use php_reader::{Reader, Stop};
 use sqlite_items::Items;
 

@@ -1,7 +1,6 @@
 -- From the roles of tokens in the program to those of the grammar.
 use Rattle.std.specs.Prelude.{◌≡◌, ◌≢◌, ℕ, Bool, true, false, Option, Some, None, List}
 use Rattle.php_ast.specs.expression.Tree.{Leaf, variable, int, string, name, magic, parentheses, emptiness, array, is_set, thin, colons}
-use Rattle.php_grammar.specs.expression.Role as role
 use Rattle.php_grammar.specs.expression.Role.{Beginning, at_leaf, at_static, at_template, at_exit, at_new, at_yield, at_enclosed, at_listed, at_prefix, at_nothing, beginning, Draw, by_binary, by_instance_of, by_choice, by_assign, by_count, by_call, by_index, by_select, Continuation, draws, closes, neither, Mark}
 use Rattle.php_reader.specs.declared.role.LeafKind.{LeafKind}
 use Rattle.php_reader.specs.declared.role.LeafKind.TheVariants as leaf
@@ -9,8 +8,6 @@ use Rattle.php_reader.specs.declared.role.Opening.{Opening}
 use Rattle.php_reader.specs.declared.role.Opening.TheVariants as opening
 use Rattle.php_reader.specs.declared.role.Start.{Start}
 use Rattle.php_reader.specs.declared.role.Start.TheVariants as start
-use Rattle.php_reader.specs.declared.role.Closer.{Closer}
-use Rattle.php_reader.specs.declared.role.Closer.TheVariants as closer
 use Rattle.php_reader.specs.declared.role.Infix.{Infix}
 use Rattle.php_reader.specs.declared.role.Infix.TheVariants as operator
 use Rattle.php_reader.specs.declared.role.Tail.{Tail}
@@ -50,16 +47,6 @@ start_view (start.Prefix op) text = at_prefix op
 start_view start.Yield text = at_yield
 start_view start.Nothing text = at_nothing
 
-abbrev pub closer_view : Closer → role.Closer
-closer_view closer.Paren = role.paren
-closer_view closer.Bracket = role.bracket
-closer_view closer.Brace = role.brace
-closer_view closer.Comma = role.comma
-closer_view closer.DoubleArrow = role.double_arrow
-closer_view closer.Colon = role.colon
-closer_view closer.Semicolon = role.semicolon
-closer_view closer.EndPart = role.part_end
-
 abbrev pub infix_view : Infix → Draw
 infix_view (operator.Binary op) = by_binary op
 infix_view operator.InstanceOf = by_instance_of
@@ -76,7 +63,7 @@ next_view (next.Infix op) = draws (infix_view op)
 next_view (next.Assign op) = draws (by_assign op)
 next_view (next.Count count) = draws (by_count count)
 next_view (next.Suffix first) = draws (tail_view first)
-next_view (next.Closes closer) = closes (closer_view closer)
+next_view (next.Closes closer) = closes closer
 next_view next.Neither = neither
 
 -- whether it is this mark

@@ -11,14 +11,15 @@ ghost use Rattle.php_ast.specs.expression.View.{spot_view};
 ghost use Rattle.php_reader.specs.Seen.{Stands, Shows, rest, Follows, Starts, SeesMark, Tests, IsNamed, ShowsWord, ShowsMember, Words, head_member, head_word, SeesClass, SeesMold};
 ghost use Rattle.php_reader.specs.RoleView.{SeesOpening};
 ghost use Rattle.php_token.specs.declared.kind.TokenKind.TheVariants.{Int, Variable};
-ghost use Rattle.php_reader.specs.RoleView.{next_view, closer_view, start_view, class_kind_view, mold_view};
+ghost use Rattle.php_reader.specs.RoleView.{next_view, start_view, class_kind_view, mold_view};
 
 use crate::role::{
-    ClassKind, Closer, Mold, Next, Opening, Start, class_kind, is_reference, is_spread, mold_of,
-    next_of, start_of,
+    ClassKind, Mold, Next, Opening, Start, class_kind, is_reference, is_spread, mold_of, next_of,
+    start_of,
 };
 use php_ast::{Member, Name, Spot, Word};
 use php_base::NoMemory;
+use php_grammar::Closer;
 use php_lex::{Keyword, Punct, TokenKind, Tokens};
 use php_value::Text;
 use std::alloc::Global;
@@ -96,8 +97,8 @@ pub fn sees_reference(tokens: &Tokens, at: usize) -> bool
 
 /// Whether a token that does this behind an expression is the one that ends it so.
 pub fn closed_by(behind: Next, closer: Closer) -> bool
-    ensures yes { result ≡ true → (tokens : List Token) (at : ℕ) → Follows tokens at (next_view behind) → Shows continuation tokens at (closes (closer_view closer)) }
-    ensures no { result ≡ false → (tokens : List Token) (at : ℕ) → Follows tokens at (next_view behind) → head_continuation (rest tokens at) ≢ closes (closer_view closer) }
+    ensures yes { result ≡ true → (tokens : List Token) (at : ℕ) → Follows tokens at (next_view behind) → Shows continuation tokens at (closes closer) }
+    ensures no { result ≡ false → (tokens : List Token) (at : ℕ) → Follows tokens at (next_view behind) → head_continuation (rest tokens at) ≢ closes closer }
 {
     match behind {
         Next::Closes(found) => found == closer,
@@ -107,8 +108,8 @@ pub fn closed_by(behind: Next, closer: Closer) -> bool
 
 /// Whether this token, which ends an expression, stands at a place.
 pub fn ends_with(tokens: &Tokens, at: usize, closer: Closer) -> bool
-    ensures yes { result ≡ true → Shows continuation tokens.now at (closes (closer_view closer)) }
-    ensures no { result ≡ false → head_continuation (rest tokens.now at) ≢ closes (closer_view closer) }
+    ensures yes { result ≡ true → Shows continuation tokens.now at (closes closer) }
+    ensures no { result ≡ false → head_continuation (rest tokens.now at) ≢ closes closer }
 {
     closed_by(next_at(tokens, at), closer)
 }

@@ -12,6 +12,7 @@ use crate::limit::{CALL_STRENGTH, SELECT_STRENGTH};
 use php_ast::{
     ArrayForm, Assign, Binary, Count, Magic, Prefix, row_of, row_of_choice, row_of_instance_of,
 };
+use php_grammar::Closer;
 use php_lex::{Cast, Keyword, Punct, TokenKind};
 
 /// An operand of one token.
@@ -45,19 +46,6 @@ pub enum Start {
     Prefix(Prefix),
     Yield,
     Nothing,
-}
-
-/// What ends an expression that stands between two tokens.
-#[derive(Clone, Copy, PartialEq, Eq)]
-pub enum Closer {
-    Paren,
-    Bracket,
-    Brace,
-    Comma,
-    DoubleArrow,
-    Colon,
-    Semicolon,
-    EndPart,
 }
 
 /// An operator behind its left side.

@@ -23,7 +23,9 @@ use Rattle.php_ast.specs.expression.Tree as tree
 use Rattle.php_ast.specs.expression.Tree.{Leaf, Enclosure, parentheses, emptiness, exiting, Listing, array, is_set, thin, colons, Member, named, reserved, held}
 use Rattle.php_ast.specs.expression.Spelling.{leaf_symbol, member_symbol, arrow_symbol}
 use Rattle.php_ast.specs.expression.Proper.{may_name, IsWord, IsMemberName}
-use Rattle.php_grammar.specs.expression.Role.{Beginning, at_leaf, at_static, at_template, at_exit, at_new, at_yield, at_enclosed, at_listed, at_prefix, at_nothing, beginning, beginning_keyword, beginning_punct, beginning_cast, Draw, by_binary, by_instance_of, by_choice, by_assign, by_count, by_call, by_index, by_select, Closer, paren, bracket, brace, comma, double_arrow, colon, semicolon, part_end, Continuation, draws, closes, neither, continuation, continuation_keyword, continuation_punct, reserved_if, word_of, member_of, Mark, refers, spreads, ends_item, begins, item_mark, is_ampersand, is_paren, is_right_paren, is_right_bracket, is_left_brace, is_colon}
+use Rattle.php_grammar.specs.declared.closer.Closer.{Closer}
+use Rattle.php_grammar.specs.declared.closer.Closer.TheVariants as ender
+use Rattle.php_grammar.specs.expression.Role.{Beginning, at_leaf, at_static, at_template, at_exit, at_new, at_yield, at_enclosed, at_listed, at_prefix, at_nothing, beginning, beginning_keyword, beginning_punct, beginning_cast, Draw, by_binary, by_instance_of, by_choice, by_assign, by_count, by_call, by_index, by_select, Continuation, draws, closes, neither, continuation, continuation_keyword, continuation_punct, reserved_if, word_of, member_of, Mark, refers, spreads, ends_item, begins, item_mark, is_ampersand, is_paren, is_right_paren, is_right_bracket, is_left_brace, is_colon}
 
 -- ---- the symbol of each role
 
@@ -38,14 +40,14 @@ draw_symbol by_index = punct mark.LeftBracket
 draw_symbol (by_select arrow) = arrow_symbol arrow
 
 abbrev pub closer_symbol : Closer → Symbol
-closer_symbol paren = punct mark.RightParen
-closer_symbol bracket = punct mark.RightBracket
-closer_symbol brace = punct mark.RightBrace
-closer_symbol comma = punct mark.Comma
-closer_symbol double_arrow = punct mark.DoubleArrow
-closer_symbol colon = punct mark.Colon
-closer_symbol semicolon = punct mark.Semicolon
-closer_symbol part_end = symbol.end_part
+closer_symbol ender.Paren = punct mark.RightParen
+closer_symbol ender.Bracket = punct mark.RightBracket
+closer_symbol ender.Brace = punct mark.RightBrace
+closer_symbol ender.Comma = punct mark.Comma
+closer_symbol ender.DoubleArrow = punct mark.DoubleArrow
+closer_symbol ender.Colon = punct mark.Colon
+closer_symbol ender.Semicolon = punct mark.Semicolon
+closer_symbol ender.EndPart = symbol.end_part
 
 abbrev pub enclosure_word : Enclosure → Symbol
 enclosure_word parentheses = punct mark.LeftParen

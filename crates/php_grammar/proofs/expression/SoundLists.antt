@@ -10,7 +10,9 @@ use Rattle.php_ast.specs.expression.Tree.{template, static_member, selected, new
 use Rattle.php_ast.specs.expression.Tree.{Items, none, and, skip, Lead, plain, reference, spread, keyed, keyed_reference, Pieces, Class, class_name, class_static, class_found}
 use Rattle.php_ast.specs.expression.Spelling.{spell_items, member_symbol}
 use Rattle.php_ast.specs.expression.Proper.{is_none, AreArguments, AreArrayItems, AreProperItems, IsWord, IsMemberName, IsProperClass, IsProperLead, is_alone_missing}
-use Rattle.php_grammar.specs.expression.Role.{by_call, by_index, by_select, Closer, paren, bracket, comma as closing_comma, Continuation, draws, member_of, Mark, refers, spreads, ends_item, begins, is_left_brace}
+use Rattle.php_grammar.specs.declared.closer.Closer.{Closer}
+use Rattle.php_grammar.specs.declared.closer.Closer.TheVariants as ender
+use Rattle.php_grammar.specs.expression.Role.{by_call, by_index, by_select, Continuation, draws, member_of, Mark, refers, spreads, ends_item, begins, is_left_brace}
 use Rattle.php_grammar.specs.expression.Machine.{Nothing, Form, Holder, of_call, of_new, of_list, items_open, computed_open, step_open, instance_of_open, OpenForms, State, expects, holds, past_items, past_static, past_static_colons, past_template, past_arrow, past_new, past_class, past_step, closed_with, has_paren, holder_closing, is_array, is_arguments, may_end, ended_items, holder_front, opening_parts, allowed_if, after, goes_on, start, ended_by, item_step, static_alone, static_step, template_step, with_member, arrow_step, new_step, class_step}
 use Rattle.php_grammar.proofs.expression.Roles.{draw_symbol, closer_symbol, Says, MarkSays, MemberSays, member_says, WordSays, left_brace_says}
 use Rattle.php_grammar.proofs.expression.Sound.{SoundList, SoundEnd, SoundLead, SoundItems, IsSound, IsFitting, IsSoundState, symbols_so_far}
@@ -88,14 +90,14 @@ list_ends h items s t x is end a sound =
 
 ended_by_leads : (c : Closer) (t : Symbol) (h : Holder) (items : Items Nothing) (s : OpenForms) → t ≡ closer_symbol c → SoundItems h items → IsSound s
     → LeadsOn (past_items h items s) t (ended_by c h items s)
-ended_by_leads closing_comma t h items s is a sound =
+ended_by_leads ender.Comma t h items s is a sound =
     allowed_leads (is_array h) (past_items h items s) (past_items h (skip items) s) t (λ array_is.
     led (past_items h items s) (past_items h (skip items) s) t _ is
     (record { holder = a.holder; list = array_skip h items array_is a.list; proper = a.proper }, sound) (λ w. refl))
-ended_by_leads paren t h items s is a sound =
+ended_by_leads ender.Paren t h items s is a sound =
     pick_leads (has_paren h) (past_items h items s) t (allowed_if (may_end h items) (after (closed_with h (ended_items items)) s)) None
     (λ b. list_ends h items s t (punct mark.RightParen) is (holder_closing_is h b) a sound) (λ b. tt)
-ended_by_leads bracket t h items s is a sound =
+ended_by_leads ender.Bracket t h items s is a sound =
     pick_leads (has_paren h) (past_items h items s) t None (allowed_if (may_end h items) (after (closed_with h (ended_items items)) s))
     (λ b. tt) (λ b. list_ends h items s t (punct mark.RightBracket) is (bracket_closing_is h b) a sound)
 ended_by_leads _ t h items s is a sound = tt

@@ -11,7 +11,9 @@ use Rattle.php_ast.specs.expression.Tree.{leaf, enclosed, index, computed, prefi
 use Rattle.php_ast.specs.expression.Tree.{Items, none, and, Lead, plain, reference, spread, keyed, keyed_reference, value, class_found, step_index}
 use Rattle.php_ast.specs.expression.Spelling.{spell, spell_items}
 use Rattle.php_ast.specs.expression.Proper.{operand_level, free, top, power, ends, takes_arrow, ends_bare, is_call, IsOperand, AreProperItems, Proper, IsKey}
-use Rattle.php_grammar.specs.expression.Role.{Beginning, at_leaf, at_static, at_template, at_exit, at_new, at_yield, at_enclosed, at_listed, at_prefix, at_nothing, beginning, Draw, by_binary, by_instance_of, by_choice, by_assign, by_count, by_call, by_index, by_select, Closer, paren, bracket, brace, comma as closing_comma, double_arrow, colon, part_end, Continuation, draws, closes, neither, continuation, draw_strength, strength_of, is_arrow, ends_yield}
+use Rattle.php_grammar.specs.declared.closer.Closer.{Closer}
+use Rattle.php_grammar.specs.declared.closer.Closer.TheVariants as ender
+use Rattle.php_grammar.specs.expression.Role.{Beginning, at_leaf, at_static, at_template, at_exit, at_new, at_yield, at_enclosed, at_listed, at_prefix, at_nothing, beginning, Draw, by_binary, by_instance_of, by_choice, by_assign, by_count, by_call, by_index, by_select, Continuation, draws, closes, neither, continuation, draw_strength, strength_of, is_arrow, ends_yield}
 use Rattle.php_grammar.specs.expression.Machine.{Nothing, Form, Holder, of_call, of_new, of_list, OpenForm, enclosed_open, items_open, index_open, computed_open, step_open, part_open, then_open, else_open, prefix_open, binary_open, instance_of_open, assign_open, yield_open, yield_value_open, OpenForms, State, expects, holds, due_enclosed, due_listed, past_items, past_value, past_exit, past_static, past_template, past_index, past_arrow, past_new, past_class, past_question, past_assign, past_yield, least_power, closed_with, has_paren, holder_closing, is_array, holder_front, opening_parts, Reached, pick, allowed_if, released, after_by, after, assigning, opened_by, keys, closed, closes_in, continued, goes_on, started, start}
 use Rattle.php_grammar.proofs.expression.Roles.{draw_symbol, closer_symbol, Says, continuation_says, BeginningSays, beginning_says, TestSays}
 use Rattle.php_grammar.proofs.expression.Sound.{SoundHolder, SoundEnd, IsSound, IsFitting, Closed, IsSoundState, symbols_so_far}
@@ -128,7 +130,7 @@ holder_leads h items s m t x is end a b p sound same =
     (λ w. same w ∙ ap (λ u. opening_parts s (holder_front h (spell_items items (u ∷ w)))) (sym end) ∙ ap (opening_parts s) (sym (closed_spells h items w))
     ∙ sym (after_written s (closed_with h items) w))
 
-keys_leads : (b : Bool) (h : Holder) (items : Items Nothing) (lead : Lead Nothing) (e : Form) (s : OpenForms) (t : Symbol) → is_array h ≡ b → t ≡ closer_symbol double_arrow
+keys_leads : (b : Bool) (h : Holder) (items : Items Nothing) (lead : Lead Nothing) (e : Form) (s : OpenForms) (t : Symbol) → is_array h ≡ b → t ≡ closer_symbol ender.DoubleArrow
     → IsFitting e (items_open h items lead ∷ s) → IsKey e → LeadsOn (holds e (items_open h items lead ∷ s)) t (keys b h items lead e s)
 keys_leads true h items plain e s t is at a k =
     led (holds e (items_open h items plain ∷ s)) (past_value h items e s) t _ at (a.sound.0.0, is, k, a.proper, a.sound.2) (λ w. refl)
@@ -150,29 +152,29 @@ items_closed h items lead e s t x is end a =
     (list_end h items lead e (list_more h items lead e a.sound.0.0.list a.sound.0.1)) (a.sound.0.0.proper, a.sound.0.2, a.proper) a.sound.2 (λ w. refl)
 
 closed_leads_on : (c : Closer) (t : Symbol) (e : Form) (f : OpenForm) (s : OpenForms) → t ≡ closer_symbol c → IsFitting e (f ∷ s) → MayClose c e → LeadsOn (holds e (f ∷ s)) t (closed c e f s)
-closed_leads_on paren t e (enclosed_open enclosure) s is h k =
+closed_leads_on ender.Paren t e (enclosed_open enclosure) s is h k =
     led (holds e (enclosed_open enclosure ∷ s)) (holds (enclosed tt enclosure e) s) t _ is (closed_fits s (enclosed tt enclosure e) h.proper refl refl h.sound.2, record { no_arrow = refl; not_bare = refl }) (λ w. refl)
-closed_leads_on paren t e (items_open g items lead) s is h k =
+closed_leads_on ender.Paren t e (items_open g items lead) s is h k =
     allowed_leads (has_paren g) (holds e (items_open g items lead ∷ s)) (after (closed_with g (and items lead e)) s) t (λ b. items_closed g items lead e s t (punct mark.RightParen) is (holder_closing_is g b) h)
-closed_leads_on bracket t e (items_open g items lead) s is h k =
+closed_leads_on ender.Bracket t e (items_open g items lead) s is h k =
     pick_leads (has_paren g) (holds e (items_open g items lead ∷ s)) t None (Some (after (closed_with g (and items lead e)) s)) (λ b. tt) (λ b. items_closed g items lead e s t (punct mark.RightBracket) is (bracket_closing_is g b) h)
-closed_leads_on bracket t e (index_open a) s is h k =
+closed_leads_on ender.Bracket t e (index_open a) s is h k =
     led (holds e (index_open a ∷ s)) (holds (index a e) s) t _ is
     (closed_fits s (index a e) (h.sound.0.0, h.sound.0.1, h.proper) refl refl h.sound.2, record { no_arrow = refl; not_bare = refl }) (λ w. refl)
-closed_leads_on bracket t e (step_open steps) s is h k =
+closed_leads_on ender.Bracket t e (step_open steps) s is h k =
     led (holds e (step_open steps ∷ s)) (past_class (class_found (step_index steps e)) s) t _ is ((h.sound.0, h.proper), h.sound.2) (λ w. refl)
-closed_leads_on brace t e (computed_open a) s is h k =
+closed_leads_on ender.Brace t e (computed_open a) s is h k =
     led (holds e (computed_open a ∷ s)) (holds (computed a e) s) t _ is
     (closed_fits s (computed a e) (h.sound.0.0, h.sound.0.1, k.not_bare refl, h.proper) refl refl h.sound.2, record { no_arrow = refl; not_bare = refl }) (λ w. refl)
-closed_leads_on closing_comma t e (items_open g items lead) s is h k =
+closed_leads_on ender.Comma t e (items_open g items lead) s is h k =
     led (holds e (items_open g items lead ∷ s)) (past_items g (and items lead e) s) t _ is
     (record { holder = h.sound.0.0.holder; list = list_more g items lead e h.sound.0.0.list h.sound.0.1; proper = (h.sound.0.0.proper, h.sound.0.2, h.proper) }, h.sound.2) (λ w. refl)
-closed_leads_on double_arrow t e (items_open g items lead) s is h k = keys_leads (is_array g) g items lead e s t refl is h (k.no_arrow refl, k.not_bare refl)
-closed_leads_on double_arrow t e yield_open s is h k =
+closed_leads_on ender.DoubleArrow t e (items_open g items lead) s is h k = keys_leads (is_array g) g items lead e s t refl is h (k.no_arrow refl, k.not_bare refl)
+closed_leads_on ender.DoubleArrow t e yield_open s is h k =
     led (holds e (yield_open ∷ s)) (expects (yield_value_open e ∷ s)) t _ is ((omega (arith, h.near), (k.no_arrow refl, k.not_bare refl), h.proper), h.sound.1, h.sound.2) (λ w. refl)
-closed_leads_on colon t e (then_open c) s is h k =
+closed_leads_on ender.Colon t e (then_open c) s is h k =
     led (holds e (then_open c ∷ s)) (expects (else_open c e ∷ s)) t _ is ((h.sound.0.0, k.not_bare refl, h.sound.0.1, h.proper), h.sound.1, h.sound.2) (λ w. refl)
-closed_leads_on part_end t e (part_open pieces) s is h k =
+closed_leads_on ender.EndPart t e (part_open pieces) s is h k =
     led (holds e (part_open pieces ∷ s)) (past_template (value pieces e) s) t _ is ((h.sound.0, k.not_bare refl, h.proper), h.sound.2) (λ w. refl)
 closed_leads_on _ t e f s is h k = tt
 

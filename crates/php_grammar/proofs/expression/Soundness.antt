@@ -12,7 +12,8 @@ use Rattle.php_ast.specs.expression.Tree.{leaf, template, exit, exit_empty, stat
 use Rattle.php_ast.specs.expression.Tree.{Items, none, plain, keyed, keyed_reference, class_found, Steps, from, step_property}
 use Rattle.php_ast.specs.expression.Spelling.{spell, list_opening}
 use Rattle.php_ast.specs.expression.Proper.{operand_level, top, power, ends, ends_bare, is_call, Proper, IsWord}
-use Rattle.php_grammar.specs.expression.Role.{double_arrow, Continuation, draws, closes, neither, continuation, draw_strength, strength_of, strength, is_arrow, ends_yield, word_of, member_of, item_mark, is_ampersand, is_paren, is_right_paren, is_right_bracket, is_colon}
+use Rattle.php_grammar.specs.declared.closer.Closer.TheVariants as ender
+use Rattle.php_grammar.specs.expression.Role.{Continuation, draws, closes, neither, continuation, draw_strength, strength_of, strength, is_arrow, ends_yield, word_of, member_of, item_mark, is_ampersand, is_paren, is_right_paren, is_right_bracket, is_colon}
 use Rattle.php_grammar.specs.expression.Machine.{Nothing, Form, Holder, of_list, enclosed_open, items_open, index_open, then_open, short_open, instance_of_open, assign_open, yield_open, OpenForms, State, expects, holds, holds_call, due_enclosed, due_listed, past_items, past_value, past_exit, past_exit_paren, past_static, past_static_colons, past_template, past_index, past_arrow, past_new, past_class, past_step, past_question, past_assign, past_yield, any, any_symbol, any_member, has_paren, completed_all, missing_end, opening_parts, allowed_if, opened_by, continued, goes_on, start, advance, Reading, halt_short, halt_static, is_last, halt_yield, halt, or_halt, read_from}
 use Rattle.php_grammar.proofs.expression.Roles.{listing_word, Says, continuation_says, item_says, member_says, word_says, TestSays, ampersand_says, paren_says, right_paren_says, right_bracket_says, colon_says}
 use Rattle.php_grammar.proofs.expression.Sound.{SoundItems, IsSound, IsFitting, IsSoundState, symbols_so_far}
@@ -102,7 +103,7 @@ bare_fits s h = record { proper = tt; near = h.0; sound = h.1; seats = seats_by 
 
 yield_arrow : (x : Continuation) → ends_yield x ≡ true → is_arrow x ≡ true → ⊥
 yield_arrow (draws d) e a = cc
-yield_arrow (closes double_arrow) e a = cc
+yield_arrow (closes ender.DoubleArrow) e a = cc
 yield_arrow (closes c) e a = cc
 yield_arrow neither e a = cc
 

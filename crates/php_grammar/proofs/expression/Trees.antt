@@ -10,7 +10,9 @@ use Rattle.php_ast.specs.expression.Tree.{leaf, template, enclosed, listed, exit
 use Rattle.php_ast.specs.expression.Spelling.{spell}
 use Rattle.php_ast.specs.Power.{prefix_power}
 use Rattle.php_ast.specs.expression.Proper.{free, top, power, ends, takes_arrow, ends_bare}
-use Rattle.php_grammar.specs.expression.Role.{Closer, Beginning, at_nothing, beginning, Continuation, draws, closes, neither, paren, ends_yield, Mark, refers, spreads, ends_item, begins}
+use Rattle.php_grammar.specs.declared.closer.Closer.{Closer}
+use Rattle.php_grammar.specs.declared.closer.Closer.TheVariants as ender
+use Rattle.php_grammar.specs.expression.Role.{Beginning, at_nothing, beginning, Continuation, draws, closes, neither, ends_yield, Mark, refers, spreads, ends_item, begins}
 use Rattle.php_grammar.specs.expression.Machine.{Form}
 use Rattle.php_grammar.proofs.expression.Roles.{closer_symbol, Says, beginning_prefix, beginning_leaf, MarkSays, TestSays}
 use Rattle.php_grammar.proofs.expression.Fill.{prefix_bound, binary_bound, edge_bounds}
@@ -149,7 +151,7 @@ test_false false t x says shut starting = refl
 test_false true t x says shut starting = let e : begins_some (beginning t) ≡ begins_some (beginning x) = ap (λ u. begins_some (beginning u)) says in cc
 
 closer_no_first : (c : Closer) → begins_some (beginning (closer_symbol c)) ≡ false
-closer_no_first paren = refl
+closer_no_first ender.Paren = refl
 closer_no_first _ = refl
 
 pub item_begins : (x : Mark) (t : Symbol) → MarkSays x t → begins_some (beginning t) ≡ true → x ≡ begins

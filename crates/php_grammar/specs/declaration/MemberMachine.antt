@@ -10,7 +10,8 @@ use Rattle.php_ast.specs.declared.declaration.Visibility.TheVariants as visibili
 use Rattle.php_ast.specs.Symbol as symbol
 use Rattle.php_ast.specs.Symbol.{Symbol, keyword, punct}
 use Rattle.php_ast.specs.expression.Tree as tree
-use Rattle.php_grammar.specs.expression.Role.{comma, semicolon, is_left_brace, word_of}
+use Rattle.php_grammar.specs.declared.closer.Closer.TheVariants as ender
+use Rattle.php_grammar.specs.expression.Role.{is_left_brace, word_of}
 use Rattle.php_grammar.specs.expression.Machine.{Nothing, Form, State, expects, any, any_symbol, pick}
 use Rattle.php_grammar.specs.Run.{either, if_some, ReadingOf, reading, if_whole, inside, run_of, through_expression, around_expression}
 use Rattle.php_ast.specs.statement.Tree.{Sequence, empty, then_also, Name, Variable}
@@ -146,20 +147,20 @@ word_here t f = if_some (word_of t) (λ w. Some (f w))
 
 -- behind a name of a list
 abbrev pub listed_step : NamesIn → Names → Symbol → Ending → Option MemberState
-listed_step list names t (closer comma) = Some (due_trait list names)
-listed_step of_use names t (closer semicolon) = Some (past_member (uses tt names))
+listed_step list names t (closer ender.Comma) = Some (due_trait list names)
+listed_step of_use names t (closer ender.Semicolon) = Some (past_member (uses tt names))
 listed_step of_use names t _ = pick (is_left_brace t) (Some (due_rule (record { traits = names; rules = empty }))) None
-listed_step (of_instead r origin w) names t (closer semicolon) = Some (due_rule (with_rule r (prefers tt origin w names)))
+listed_step (of_instead r origin w) names t (closer ender.Semicolon) = Some (due_rule (with_rule r (prefers tt origin w names)))
 listed_step _ names t _ = None
 
 abbrev pub constant_end : Modifiers → Sequence (ClassConstant Nothing) → Ending → Option MemberState
-constant_end modifiers items (closer comma) = Some (due_constant modifiers items)
-constant_end modifiers items (closer semicolon) = Some (past_member (class_constants modifiers items))
+constant_end modifiers items (closer ender.Comma) = Some (due_constant modifiers items)
+constant_end modifiers items (closer ender.Semicolon) = Some (past_member (class_constants modifiers items))
 constant_end modifiers items _ = None
 
 abbrev pub property_end : Modifiers → Sequence (Variable Nothing) → Ending → Option MemberState
-property_end modifiers items (closer comma) = Some (due_property modifiers items)
-property_end modifiers items (closer semicolon) = Some (past_member (properties modifiers items))
+property_end modifiers items (closer ender.Comma) = Some (due_property modifiers items)
+property_end modifiers items (closer ender.Semicolon) = Some (past_member (properties modifiers items))
 property_end modifiers items _ = None
 
 abbrev pub with_constant : Sequence (ClassConstant Nothing) → Word → Form → Sequence (ClassConstant Nothing)

@@ -6,7 +6,8 @@ use Rattle.php_token.specs.declared.kind.Punct.{Punct}
 use Rattle.php_token.specs.declared.kind.Punct.TheVariants as mark
 use Rattle.php_ast.specs.Symbol as symbol
 use Rattle.php_ast.specs.Symbol.{Symbol, keyword, punct}
-use Rattle.php_grammar.specs.expression.Role.{paren, comma, is_paren, is_colon, is_right_paren}
+use Rattle.php_grammar.specs.declared.closer.Closer.TheVariants as ender
+use Rattle.php_grammar.specs.expression.Role.{is_paren, is_colon, is_right_paren}
 use Rattle.php_grammar.specs.expression.Machine.{Nothing, Form, State, expects, any_symbol, pick}
 use Rattle.php_grammar.specs.Run.{ReadingOf, reading, if_whole, run_of, through_expression, around_expression}
 use Rattle.php_ast.specs.statement.Tree.{Sequence, empty, then_also, Name}
@@ -123,8 +124,8 @@ abbrev pub due_param_step : Params → Symbol → Option SignatureState
 due_param_step params t = pick (is_right_paren t) (pick (is_empty params) (Some (past_params params)) None) (param_step params (param_role t))
 
 abbrev pub param_end : Params → Ending → Option SignatureState
-param_end params (closer comma) = Some (due_param params)
-param_end params (closer paren) = Some (past_params params)
+param_end params (closer ender.Comma) = Some (due_param params)
+param_end params (closer ender.Paren) = Some (past_params params)
 param_end params _ = None
 
 abbrev pub name_step : Params → Param Nothing → Symbol → Option SignatureState

@@ -18,7 +18,9 @@ use Rattle.php_ast.specs.expression.Spelling.{spell, spell_items, spell_lead, sp
 use Rattle.php_ast.specs.Operators.{binary_symbol, prefix_symbol}
 use Rattle.php_ast.specs.Power.{binary_row, choice_row, assign_row, prefix_power, yield_power}
 use Rattle.php_ast.specs.expression.Proper.{right, ends, is_call, is_none, operand_level}
-use Rattle.php_grammar.specs.expression.Role.{Beginning, at_leaf, at_static, at_template, at_exit, at_new, at_yield, at_enclosed, at_listed, at_prefix, at_nothing, beginning, Draw, by_binary, by_instance_of, by_choice, by_assign, by_count, by_call, by_index, by_select, Closer, paren, bracket, brace, comma as closing_comma, double_arrow, colon, part_end, Continuation, draws, closes, neither, continuation, draw_strength, strength_of, strength, is_arrow, ends_yield, word_of, member_of, Mark, refers, spreads, ends_item, begins, item_mark, is_ampersand, is_paren, is_right_paren, is_right_bracket, is_left_brace, is_colon}
+use Rattle.php_grammar.specs.declared.closer.Closer.{Closer}
+use Rattle.php_grammar.specs.declared.closer.Closer.TheVariants as ender
+use Rattle.php_grammar.specs.expression.Role.{Beginning, at_leaf, at_static, at_template, at_exit, at_new, at_yield, at_enclosed, at_listed, at_prefix, at_nothing, beginning, Draw, by_binary, by_instance_of, by_choice, by_assign, by_count, by_call, by_index, by_select, Continuation, draws, closes, neither, continuation, draw_strength, strength_of, strength, is_arrow, ends_yield, word_of, member_of, Mark, refers, spreads, ends_item, begins, item_mark, is_ampersand, is_paren, is_right_paren, is_right_bracket, is_left_brace, is_colon}
 
 -- What is read is a form: a tree that notes nothing of its tokens.
 abbrev pub Nothing : Type 0
@@ -289,17 +291,17 @@ keys true h items plain e s = Some (past_value h items e s)
 keys _ h items lead e s = None
 
 abbrev pub closed : Closer → Form → OpenForm → OpenForms → Option State
-closed paren e (enclosed_open enclosure) s = Some (holds (enclosed tt enclosure e) s)
-closed paren e (items_open h items lead) s = allowed_if (has_paren h) (after (closed_with h (and items lead e)) s)
-closed bracket e (items_open h items lead) s = pick (has_paren h) None (Some (after (closed_with h (and items lead e)) s))
-closed bracket e (index_open a) s = Some (holds (index a e) s)
-closed bracket e (step_open steps) s = Some (past_class (class_found (step_index steps e)) s)
-closed brace e (computed_open a) s = Some (holds (computed a e) s)
-closed closing_comma e (items_open h items lead) s = Some (past_items h (and items lead e) s)
-closed double_arrow e (items_open h items lead) s = keys (is_array h) h items lead e s
-closed double_arrow e yield_open s = Some (expects (yield_value_open e ∷ s))
-closed colon e (then_open c) s = Some (expects (else_open c e ∷ s))
-closed part_end e (part_open pieces) s = Some (past_template (value pieces e) s)
+closed ender.Paren e (enclosed_open enclosure) s = Some (holds (enclosed tt enclosure e) s)
+closed ender.Paren e (items_open h items lead) s = allowed_if (has_paren h) (after (closed_with h (and items lead e)) s)
+closed ender.Bracket e (items_open h items lead) s = pick (has_paren h) None (Some (after (closed_with h (and items lead e)) s))
+closed ender.Bracket e (index_open a) s = Some (holds (index a e) s)
+closed ender.Bracket e (step_open steps) s = Some (past_class (class_found (step_index steps e)) s)
+closed ender.Brace e (computed_open a) s = Some (holds (computed a e) s)
+closed ender.Comma e (items_open h items lead) s = Some (past_items h (and items lead e) s)
+closed ender.DoubleArrow e (items_open h items lead) s = keys (is_array h) h items lead e s
+closed ender.DoubleArrow e yield_open s = Some (expects (yield_value_open e ∷ s))
+closed ender.Colon e (then_open c) s = Some (expects (else_open c e ∷ s))
+closed ender.EndPart e (part_open pieces) s = Some (past_template (value pieces e) s)
 closed _ e f s = None
 
 abbrev pub closes_in : Closer → Form → OpenForms → Option State
@@ -334,10 +336,10 @@ abbrev pub start : OpenForms → Symbol → Option State
 start s t = started (beginning t) s
 
 abbrev pub ended_by : Closer → Holder → Items Nothing → OpenForms → Option State
-ended_by closing_comma h items s = allowed_if (is_array h) (past_items h (skip items) s)
-ended_by paren h items s =
+ended_by ender.Comma h items s = allowed_if (is_array h) (past_items h (skip items) s)
+ended_by ender.Paren h items s =
     pick (has_paren h) (allowed_if (may_end h items) (after (closed_with h (ended_items items)) s)) None
-ended_by bracket h items s =
+ended_by ender.Bracket h items s =
     pick (has_paren h) None (allowed_if (may_end h items) (after (closed_with h (ended_items items)) s))
 ended_by _ h items s = None
 

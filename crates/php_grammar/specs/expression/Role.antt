@@ -20,6 +20,8 @@ use Rattle.php_ast.specs.Symbol as symbol
 use Rattle.php_ast.specs.Symbol.{Symbol, keyword, punct, cast}
 use Rattle.php_ast.specs.expression.Tree as tree
 use Rattle.php_ast.specs.expression.Tree.{Leaf, Enclosure, parentheses, emptiness, Listing, array, is_set, Arrow, thin, colons, Member, named, reserved, held}
+use Rattle.php_grammar.specs.declared.closer.Closer.{Closer}
+use Rattle.php_grammar.specs.declared.closer.Closer.TheVariants as ender
 use Rattle.php_ast.specs.Power.{binary_row, choice_row, instance_of_row}
 use Rattle.php_ast.specs.expression.Proper.{free, select_strength, call_strength, may_name}
 
@@ -103,17 +105,6 @@ pub data Draw : Type 0 where
   by_index : Draw
   by_select : Arrow → Draw
 
--- what ends an expression that stands between two tokens, or goes on with what is around it
-pub data Closer : Type 0 where
-  paren : Closer
-  bracket : Closer
-  brace : Closer
-  comma : Closer
-  double_arrow : Closer
-  colon : Closer
-  semicolon : Closer
-  part_end : Closer
-
 pub data Continuation : Type 0 where
   draws : Draw → Continuation
   closes : Closer → Continuation
@@ -128,10 +119,10 @@ continuation_keyword _ = neither
 
 abbrev pub continuation_punct : Punct → Continuation
 continuation_punct mark.LeftBracket = draws by_index
-continuation_punct mark.RightBracket = closes bracket
+continuation_punct mark.RightBracket = closes ender.Bracket
 continuation_punct mark.LeftParen = draws by_call
-continuation_punct mark.RightParen = closes paren
-continuation_punct mark.RightBrace = closes brace
+continuation_punct mark.RightParen = closes ender.Paren
+continuation_punct mark.RightBrace = closes ender.Brace
 continuation_punct mark.Dot = draws (by_binary binary.Concatenated)
 continuation_punct mark.Arrow = draws (by_select thin)
 continuation_punct mark.PlusPlus = draws (by_count count.Up)
@@ -160,8 +151,8 @@ continuation_punct mark.Ampersand = draws (by_binary binary.BitAnd)
 continuation_punct mark.AndAnd = draws (by_binary binary.LogicalAnd)
 continuation_punct mark.BarBar = draws (by_binary binary.LogicalOr)
 continuation_punct mark.Question = draws by_choice
-continuation_punct mark.Colon = closes colon
-continuation_punct mark.Semicolon = closes semicolon
+continuation_punct mark.Colon = closes ender.Colon
+continuation_punct mark.Semicolon = closes ender.Semicolon
 continuation_punct mark.Assign = draws (by_assign assign.Plain)
 continuation_punct mark.PowerAssign = draws (by_assign assign.Power)
 continuation_punct mark.StarAssign = draws (by_assign assign.Times)
@@ -175,16 +166,16 @@ continuation_punct mark.ShiftRightAssign = draws (by_assign assign.ShiftedRight)
 continuation_punct mark.AmpersandAssign = draws (by_assign assign.BitAnd)
 continuation_punct mark.CaretAssign = draws (by_assign assign.BitXor)
 continuation_punct mark.BarAssign = draws (by_assign assign.BitOr)
-continuation_punct mark.Comma = closes comma
+continuation_punct mark.Comma = closes ender.Comma
 continuation_punct mark.QuestionQuestion = draws (by_binary binary.Coalesced)
-continuation_punct mark.DoubleArrow = closes double_arrow
+continuation_punct mark.DoubleArrow = closes ender.DoubleArrow
 continuation_punct mark.DoubleColon = draws (by_select colons)
 continuation_punct _ = neither
 
 abbrev pub continuation : Symbol → Continuation
 continuation (keyword k) = continuation_keyword k
 continuation (punct p) = continuation_punct p
-continuation symbol.end_part = closes part_end
+continuation symbol.end_part = closes ender.EndPart
 continuation _ = neither
 
 -- How tightly a symbol draws what stands before it: an operator with its power, the others in the order in
@@ -207,15 +198,15 @@ abbrev pub strength : Symbol → ℕ
 strength t = strength_of (continuation t)
 
 abbrev pub is_arrow : Continuation → Bool
-is_arrow (closes double_arrow) = true
+is_arrow (closes ender.DoubleArrow) = true
 is_arrow _ = false
 
 -- A `yield` stands alone in front of these.
 abbrev pub ends_yield : Continuation → Bool
-ends_yield (closes paren) = true
-ends_yield (closes semicolon) = true
-ends_yield (closes comma) = true
-ends_yield (closes bracket) = true
+ends_yield (closes ender.Paren) = true
+ends_yield (closes ender.Semicolon) = true
+ends_yield (closes ender.Comma) = true
+ends_yield (closes ender.Bracket) = true
 ends_yield _ = false
 
 -- ---- behind `->` and `::`

@@ -9,7 +9,9 @@ use Rattle.php_ast.specs.declared.statement.CaseEnd.TheVariants as case_end
 use Rattle.php_ast.specs.Symbol as symbol
 use Rattle.php_ast.specs.Symbol.{Symbol}
 use Rattle.php_ast.specs.expression.Tree.{Items, none, and, plain}
-use Rattle.php_grammar.specs.expression.Role.{Closer, paren, comma, double_arrow, colon, semicolon, is_ampersand, is_colon, is_left_brace}
+use Rattle.php_grammar.specs.declared.closer.Closer.{Closer}
+use Rattle.php_grammar.specs.declared.closer.Closer.TheVariants as ender
+use Rattle.php_grammar.specs.expression.Role.{is_ampersand, is_colon, is_left_brace}
 use Rattle.php_grammar.specs.expression.Machine.{Nothing, Form, State, expects, past_static, pick, advance}
 use Rattle.php_grammar.specs.Run.{either, if_some, through_expression}
 use Rattle.php_ast.specs.statement.Tree.{Sequence, empty, then_also, Name, Target}
@@ -164,11 +166,11 @@ block_step body (and_catch catches classes variable ss) o t x =
 
 -- the list of values without a further one
 abbrev pub values_end : Values → Items Nothing → Around → Closer → Option StatementState
-values_end of_echo items o semicolon = Some (done (echo tt items) o)
-values_end of_unset items o paren = Some (before_semicolon (unset tt items) o)
-values_end of_starts items o semicolon = Some (due_value (of_tests items) o)
-values_end (of_tests starts) items o semicolon = Some (due_value (of_steps starts items) o)
-values_end (of_steps starts tests) items o paren = Some (past_loop (for_loop starts tests items) o)
+values_end of_echo items o ender.Semicolon = Some (done (echo tt items) o)
+values_end of_unset items o ender.Paren = Some (before_semicolon (unset tt items) o)
+values_end of_starts items o ender.Semicolon = Some (due_value (of_tests items) o)
+values_end (of_tests starts) items o ender.Semicolon = Some (due_value (of_steps starts items) o)
+values_end (of_steps starts tests) items o ender.Paren = Some (past_loop (for_loop starts tests items) o)
 values_end _ items o _ = None
 
 abbrev pub values_step : Values → Items Nothing → Around → Ending → Option StatementState
@@ -192,22 +194,22 @@ labelled e form cases label end o = listing (of_case e form cases label end) o
 
 -- the expression with what ends it
 abbrev pub filled : ExpressionPlace → Form → Around → Ending → Option StatementState
-filled as_line e o (closer semicolon) = Some (done (expression tt e) o)
-filled (as_value values items) e o (closer comma) = Some (expected (as_value values (and items plain e)) o)
+filled as_line e o (closer ender.Semicolon) = Some (done (expression tt e) o)
+filled (as_value values items) e o (closer ender.Comma) = Some (expected (as_value values (and items plain e)) o)
 filled (as_value values items) e o x = values_step values (and items plain e) o x
-filled (as_static xs n) e o (closer comma) = Some (due_name (of_statics (then_also xs (record { name = n; value = Some e }))) o)
-filled (as_static xs n) e o (closer semicolon) = Some (done (statics tt (then_also xs (record { name = n; value = Some e }))) o)
-filled (as_constant xs n) e o (closer comma) = Some (due_name (of_constants (then_also xs (record { name = n; value = e }))) o)
-filled (as_constant xs n) e o (closer semicolon) = Some (done (constants tt (then_also xs (record { name = n; value = e }))) o)
-filled (as_jump kind) e o (closer semicolon) = Some (done (jump tt kind (Some e)) o)
-filled as_thrown e o (closer semicolon) = Some (done (throw tt e) o)
-filled (as_test head) e o (closer paren) = Some (tested head e o)
+filled (as_static xs n) e o (closer ender.Comma) = Some (due_name (of_statics (then_also xs (record { name = n; value = Some e }))) o)
+filled (as_static xs n) e o (closer ender.Semicolon) = Some (done (statics tt (then_also xs (record { name = n; value = Some e }))) o)
+filled (as_constant xs n) e o (closer ender.Comma) = Some (due_name (of_constants (then_also xs (record { name = n; value = e }))) o)
+filled (as_constant xs n) e o (closer ender.Semicolon) = Some (done (constants tt (then_also xs (record { name = n; value = e }))) o)
+filled (as_jump kind) e o (closer ender.Semicolon) = Some (done (jump tt kind (Some e)) o)
+filled as_thrown e o (closer ender.Semicolon) = Some (done (throw tt e) o)
+filled (as_test head) e o (closer ender.Paren) = Some (tested head e o)
 filled as_walked e o as_word = Some (past_as e o)
-filled (as_first walked is_reference) e o (closer double_arrow) = Some (past_key walked (target is_reference e) o)
-filled (as_first walked is_reference) e o (closer paren) = Some (past_loop (foreach_loop walked None (target is_reference e)) o)
-filled (as_second walked key is_reference) e o (closer paren) = Some (past_loop (foreach_loop walked (Some key) (target is_reference e)) o)
-filled (as_label e form cases) label o (closer colon) = Some (labelled e form cases (Some label) case_end.Colon o)
-filled (as_label e form cases) label o (closer semicolon) = Some (labelled e form cases (Some label) case_end.Semicolon o)
+filled (as_first walked is_reference) e o (closer ender.DoubleArrow) = Some (past_key walked (target is_reference e) o)
+filled (as_first walked is_reference) e o (closer ender.Paren) = Some (past_loop (foreach_loop walked None (target is_reference e)) o)
+filled (as_second walked key is_reference) e o (closer ender.Paren) = Some (past_loop (foreach_loop walked (Some key) (target is_reference e)) o)
+filled (as_label e form cases) label o (closer ender.Colon) = Some (labelled e form cases (Some label) case_end.Colon o)
+filled (as_label e form cases) label o (closer ender.Semicolon) = Some (labelled e form cases (Some label) case_end.Semicolon o)
 filled _ e o _ = None
 
 abbrev pub expression_step : ExpressionPlace → State → Around → Symbol → Option StatementState
@@ -230,10 +232,10 @@ class_step body catches classes o (symbol.variable text) =
 class_step body catches classes o t = pick (is_bar t) (Some (due_name (of_classes body catches classes) o)) None
 
 abbrev pub name_step : Names → Name Nothing → Around → Symbol → Ending → Option StatementState
-name_step (of_globals names) n o t (closer comma) = Some (due_name (of_globals (then_also names n)) o)
-name_step (of_globals names) n o t (closer semicolon) = Some (done (globals tt (then_also names n)) o)
-name_step (of_statics xs) n o t (closer comma) = Some (due_name (of_statics (then_also xs (record { name = n; value = None }))) o)
-name_step (of_statics xs) n o t (closer semicolon) = Some (done (statics tt (then_also xs (record { name = n; value = None }))) o)
+name_step (of_globals names) n o t (closer ender.Comma) = Some (due_name (of_globals (then_also names n)) o)
+name_step (of_globals names) n o t (closer ender.Semicolon) = Some (done (globals tt (then_also names n)) o)
+name_step (of_statics xs) n o t (closer ender.Comma) = Some (due_name (of_statics (then_also xs (record { name = n; value = None }))) o)
+name_step (of_statics xs) n o t (closer ender.Semicolon) = Some (done (statics tt (then_also xs (record { name = n; value = None }))) o)
 name_step (of_statics xs) n o t _ = pick (is_assign t) (Some (expected (as_static xs n) o)) None
 name_step (of_constants xs) n o t _ = pick (is_assign t) (Some (expected (as_constant xs n) o)) None
 name_step (of_classes body catches classes) n o t _ = class_step body catches (then_also classes n) o t
@@ -259,8 +261,8 @@ switch_step e o t =
     pick (is_left_brace t) (Some (due_case e switch_form.Braces no_case o)) (pick (is_colon t) (Some (due_case e switch_form.Colon no_case o)) None)
 
 abbrev pub default_step : Form → SwitchForm → Cases Nothing → Around → Ending → Option StatementState
-default_step e form cases o (closer colon) = Some (labelled e form cases None case_end.Colon o)
-default_step e form cases o (closer semicolon) = Some (labelled e form cases None case_end.Semicolon o)
+default_step e form cases o (closer ender.Colon) = Some (labelled e form cases None case_end.Colon o)
+default_step e form cases o (closer ender.Semicolon) = Some (labelled e form cases None case_end.Semicolon o)
 default_step e form cases o _ = None
 
 -- ---- one symbol

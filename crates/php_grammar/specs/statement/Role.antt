@@ -8,7 +8,8 @@ use Rattle.php_token.specs.declared.kind.Punct.TheVariants as mark
 use Rattle.php_ast.specs.Symbol as symbol
 use Rattle.php_ast.specs.Symbol.{Symbol, keyword, punct}
 use Rattle.php_ast.specs.statement.Tree.{Jump, returning, breaking, continuing}
-use Rattle.php_grammar.specs.expression.Role.{Closer, Continuation, closes, continuation, is_paren, is_right_paren, is_left_brace, is_colon}
+use Rattle.php_grammar.specs.declared.closer.Closer.{Closer}
+use Rattle.php_grammar.specs.expression.Role.{Continuation, closes, continuation, is_paren, is_right_paren, is_left_brace, is_colon}
 
 -- ---- where a statement is due
 

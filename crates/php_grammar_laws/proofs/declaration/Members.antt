@@ -16,8 +16,9 @@ use Rattle.php_ast.specs.statement.Proper.{is_empty, Each, IfAny}
 use Rattle.php_ast.specs.declaration.Tree.{Modifier, ClassConstant, Rule, renames, prefers, Member, uses, uses_by, class_constants, method, properties}
 use Rattle.php_ast.specs.declaration.Spelling.{joined, modifier_word, spell_modifier, visibility_word, spell_visibility, spell_alias, spell_origin, spell_rule, spell_class_constant, spell_member}
 use Rattle.php_ast.specs.declaration.Proper.{is_visibility_word, IsProperRule, IsProperConstant, IsProperMember}
+use Rattle.php_grammar.specs.declared.closer.Closer.TheVariants as ender
 use Rattle.php_grammar.specs.Run.{either, if_some, ReadingOf}
-use Rattle.php_grammar.specs.expression.Role.{comma, semicolon, is_left_brace, word_of}
+use Rattle.php_grammar.specs.expression.Role.{is_left_brace, word_of}
 use Rattle.php_grammar.specs.expression.Machine.{Nothing, State, expects, any_symbol, pick, halt}
 use Rattle.php_grammar.specs.statement.Role.{Ending, closer, ending, is_assign, is_semicolon, is_right_brace, name_text}
 use Rattle.php_grammar.specs.statement.Machine.{named_here}
@@ -242,24 +243,24 @@ comma_front list (then_also names n) w some = refl
 
 listed_leads : (list : NamesIn) (x : Ending) (names : Names) (t : Symbol) (f : Front) → EndingSays x t → SoundNamesIn list → is_empty names ≡ false
     → Same (λ w. list_front list (commas spell_name names w)) f → Leads ReachedMember (with_one f t) (listed_step list names t x)
-listed_leads list (closer comma) names t f is h some same =
+listed_leads list (closer ender.Comma) names t f is h some same =
     (h, λ w. comma_front list names w some ∙ next (λ v. list_front list (commas spell_name names v)) f t (punct mark.Comma) is same w)
-listed_leads of_use (closer semicolon) names t f is h some same = (some, λ w. next (λ v. list_front of_use (commas spell_name names v)) f t _ is same w)
-listed_leads (of_instead r origin n) (closer semicolon) names t f is h some same =
+listed_leads of_use (closer ender.Semicolon) names t f is h some same = (some, λ w. next (λ v. list_front of_use (commas spell_name names v)) f t _ is same w)
+listed_leads (of_instead r origin n) (closer ender.Semicolon) names t f is h some same =
     ((h.0.0, (h.0.1, (h.1, some))), λ w. next (λ v. list_front (of_instead r origin n) (commas spell_name names v)) f t _ is same w)
 listed_leads of_use _ names t f is h some same = brace_leads names t f some same
 listed_leads (of_instead r origin n) _ names t f is h some same = tt
 
 constant_end_leads : (x : Ending) (ms : Modifiers) (items : Sequence (ClassConstant Nothing)) (c : ClassConstant Nothing) (t : Symbol) (f : Front) → EndingSays x t → Each IsProperConstant (then_also items c)
     → Same (λ w. constants_front ms items (spell_class_constant c w)) f → Leads ReachedMember (with_one f t) (constant_end ms (then_also items c) x)
-constant_end_leads (closer comma) ms items c t f is h same = (h, λ w. next (λ v. constants_front ms items (spell_class_constant c v)) f t _ is same w)
-constant_end_leads (closer semicolon) ms items c t f is h same = ((refl, h), λ w. next (λ v. constants_front ms items (spell_class_constant c v)) f t _ is same w)
+constant_end_leads (closer ender.Comma) ms items c t f is h same = (h, λ w. next (λ v. constants_front ms items (spell_class_constant c v)) f t _ is same w)
+constant_end_leads (closer ender.Semicolon) ms items c t f is h same = ((refl, h), λ w. next (λ v. constants_front ms items (spell_class_constant c v)) f t _ is same w)
 constant_end_leads _ ms items c t f is h same = tt
 
 property_end_leads : (x : Ending) (ms : Modifiers) (items : Sequence (Variable Nothing)) (c : Variable Nothing) (t : Symbol) (f : Front) → EndingSays x t → SoundProperties ms (then_also items c)
     → Same (λ w. properties_front ms items (spell_variable c w)) f → Leads ReachedMember (with_one f t) (property_end ms (then_also items c) x)
-property_end_leads (closer comma) ms items c t f is h same = (h, λ w. next (λ v. properties_front ms items (spell_variable c v)) f t _ is same w)
-property_end_leads (closer semicolon) ms items c t f is h same = ((h.0, refl, h.1), λ w. next (λ v. properties_front ms items (spell_variable c v)) f t _ is same w)
+property_end_leads (closer ender.Comma) ms items c t f is h same = (h, λ w. next (λ v. properties_front ms items (spell_variable c v)) f t _ is same w)
+property_end_leads (closer ender.Semicolon) ms items c t f is h same = ((h.0, refl, h.1), λ w. next (λ v. properties_front ms items (spell_variable c v)) f t _ is same w)
 property_end_leads _ ms items c t f is h same = tt
 
 due_property_leads : (x : MemberRole) (ms : Modifiers) (items : Sequence (Variable Nothing)) (t : Symbol) (f : Front) → RoleSays x t → SoundProperties ms items → Same (properties_front ms items) f

@@ -12,8 +12,9 @@ use Rattle.php_ast.specs.statement.Proper.{is_empty, Each, IfAny}
 use Rattle.php_ast.specs.declaration.Tree.{Base, of_name, of_array, of_callable, Type_of, Param, Signature}
 use Rattle.php_ast.specs.declaration.Spelling.{spell_base, spell_type, spell_declared, spell_param, spell_result, spell_signature}
 use Rattle.php_ast.specs.declaration.Proper.{IsProperParam, IsProperSignature}
+use Rattle.php_grammar.specs.declared.closer.Closer.TheVariants as ender
 use Rattle.php_grammar.specs.Begins.{BeginsSignature}
-use Rattle.php_grammar.specs.expression.Role.{paren, comma, is_paren, is_right_paren, is_colon}
+use Rattle.php_grammar.specs.expression.Role.{is_paren, is_right_paren, is_colon}
 use Rattle.php_grammar.specs.expression.Machine.{Nothing, State, expects, any_symbol, pick, halt}
 use Rattle.php_grammar.specs.statement.Role.{Ending, closer, ending, is_assign}
 use Rattle.php_grammar.specs.declaration.Laws.{SpellsSignature, SignatureEnds, ResultEnds}
@@ -161,8 +162,8 @@ due_param_leads params t f h same =
 
 param_end_leads : (x : Ending) (params : Params) (p : Param Nothing) (t : Symbol) (f : Front) → EndingSays x t → SoundParams (then_also params p) → Same (λ w. params_front params (spell_param p w)) f
     → Leads ReachedSignature (with_one f t) (param_end (then_also params p) x)
-param_end_leads (closer comma) params p t f is h same = (h, λ w. next (λ v. params_front params (spell_param p v)) f t _ is same w)
-param_end_leads (closer paren) params p t f is h same = (h, λ w. next (λ v. params_front params (spell_param p v)) f t _ is same w)
+param_end_leads (closer ender.Comma) params p t f is h same = (h, λ w. next (λ v. params_front params (spell_param p v)) f t _ is same w)
+param_end_leads (closer ender.Paren) params p t f is h same = (h, λ w. next (λ v. params_front params (spell_param p v)) f t _ is same w)
 param_end_leads _ params p t f is h same = tt
 
 lacks_value : (p : Param Nothing) (w : List Symbol) → p.default ≡ None → spell_param p w ≡ named_front p w

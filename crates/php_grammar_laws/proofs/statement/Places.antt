@@ -14,7 +14,9 @@ use Rattle.php_ast.specs.statement.Proper.{AreAny, AreProperCases}
 use Rattle.php_ast.specs.statement.Tree.{Sequence, then_also, Name}
 use Rattle.php_ast.specs.statement.Tree.{jump}
 use Rattle.php_ast.specs.statement.Tree.{Statements, Cases, no_case, Catches}
-use Rattle.php_grammar.specs.expression.Role.{Closer, paren, comma, double_arrow, colon, semicolon, continuation, ends_yield, is_ampersand, is_colon, is_left_brace}
+use Rattle.php_grammar.specs.declared.closer.Closer.{Closer}
+use Rattle.php_grammar.specs.declared.closer.Closer.TheVariants as ender
+use Rattle.php_grammar.specs.expression.Role.{continuation, ends_yield, is_ampersand, is_colon, is_left_brace}
 use Rattle.php_grammar.specs.expression.Machine.{Nothing, Form, State, past_static, pick}
 use Rattle.php_grammar.specs.Run.{if_some}
 use Rattle.php_grammar.specs.statement.Forms.{of_if, of_loop, if_open, loop_open, Around, Head, if_head, elseif_head, elseif_list_head, while_head, do_head, switch_head, Values, of_echo, of_unset, of_starts, of_tests, of_steps, ExpressionPlace, as_line, as_value, as_static, as_constant, as_jump, as_thrown, as_test, as_walked, as_first, as_second, as_label, Names, of_globals, of_statics, of_constants, of_classes, of_declare, StatementState, due_statement, done, due, in_expression, due_in_list, due_value, due_name, past_name, due_int, past_static_word, past_jump, past_if, past_loop, past_as, past_key, past_switch, due_case, past_default, past_block}
@@ -44,13 +46,13 @@ not_bare x e ends h = not_true (ends_bare e) (ends_yield (continuation x)) ends 
 
 values_end_leads : (values : Values) (items : Items Nothing) (c : Closer) (o : Around) (t : Symbol) (f : Front) → t ≡ closer_symbol c → SoundAround o → SoundValues values → FitsValues values items
     → Same (λ w. around_front o (values_front values (spell_items items w))) f → Leads Reached (with_one f t) (values_end values items o c)
-values_end_leads of_echo items semicolon o t f is a h fits same = ((a, fits, refl), λ w. next (λ v. around_front o (values_front of_echo (spell_items items v))) f t _ is same w)
-values_end_leads of_unset items paren o t f is a h fits same =
+values_end_leads of_echo items ender.Semicolon o t f is a h fits same = ((a, fits, refl), λ w. next (λ v. around_front o (values_front of_echo (spell_items items v))) f t _ is same w)
+values_end_leads of_unset items ender.Paren o t f is a h fits same =
     ((a, fits, refl), λ w. next (λ v. around_front o (values_front of_unset (spell_items items v))) f t _ is same (punct mark.Semicolon ∷ w))
-values_end_leads of_starts items semicolon o t f is a h fits same = ((a, fits, tt), λ w. next (λ v. around_front o (values_front of_starts (spell_items items v))) f t _ is same w)
-values_end_leads (of_tests b) items semicolon o t f is a h fits same =
+values_end_leads of_starts items ender.Semicolon o t f is a h fits same = ((a, fits, tt), λ w. next (λ v. around_front o (values_front of_starts (spell_items items v))) f t _ is same w)
+values_end_leads (of_tests b) items ender.Semicolon o t f is a h fits same =
     ((a, (h, fits), tt), λ w. next (λ v. around_front o (values_front (of_tests b) (spell_items items v))) f t _ is same w)
-values_end_leads (of_steps b d) items paren o t f is a h fits same =
+values_end_leads (of_steps b d) items ender.Paren o t f is a h fits same =
     ((a, (h.0, h.1, fits)), λ w. next (λ v. around_front o (values_front (of_steps b d) (spell_items items v))) f t _ is same w)
 values_end_leads of_echo items _ o t f is a h fits same = tt
 values_end_leads of_unset items _ o t f is a h fits same = tt
@@ -94,31 +96,31 @@ tested_leads switch_head e o t f is p a h same = ((a, p), λ w. next (λ v. arou
 
 filled_leads : (place : ExpressionPlace) (x : Ending) (e : Form) (o : Around) (t : Symbol) (f : Front) → EndingSays x t → WholeBefore t e → SoundAround o → SoundPlace place
     → Same (λ w. around_front o (place_front place (spell e w))) f → Leads Reached (with_one f t) (filled place e o x)
-filled_leads as_line (closer semicolon) e o t f is h a p same = ((a, h.proper, refl), λ w. next (λ v. around_front o (spell e v)) f t _ is same w)
-filled_leads (as_value values items) (closer comma) e o t f is h a p same =
+filled_leads as_line (closer ender.Semicolon) e o t f is h a p same = ((a, h.proper, refl), λ w. next (λ v. around_front o (spell e v)) f t _ is same w)
+filled_leads (as_value values items) (closer ender.Comma) e o t f is h a p same =
     ((a, (p.0, (p.1.0, (p.1.1, tt, h.proper))), nothing_read), λ w. next (λ v. around_front o (place_front (as_value values items) (spell e v))) f t _ is same w)
 filled_leads (as_value values items) x e o t f is h a p same = values_leads values (and items plain e) x o t f is a p.0 (one_fits values items e p.1 h.proper) same
-filled_leads (as_static xs n) (closer comma) e o t f is h a p same = ((a, (p, h.proper)), λ w. next (λ v. around_front o (place_front (as_static xs n) (spell e v))) f t _ is same w)
-filled_leads (as_static xs n) (closer semicolon) e o t f is h a p same =
+filled_leads (as_static xs n) (closer ender.Comma) e o t f is h a p same = ((a, (p, h.proper)), λ w. next (λ v. around_front o (place_front (as_static xs n) (spell e v))) f t _ is same w)
+filled_leads (as_static xs n) (closer ender.Semicolon) e o t f is h a p same =
     ((a, (refl, (p, h.proper)), refl), λ w. next (λ v. around_front o (place_front (as_static xs n) (spell e v))) f t _ is same w)
-filled_leads (as_constant xs n) (closer comma) e o t f is h a p same = ((a, (p, h.proper)), λ w. next (λ v. around_front o (place_front (as_constant xs n) (spell e v))) f t _ is same w)
-filled_leads (as_constant xs n) (closer semicolon) e o t f is h a p same =
+filled_leads (as_constant xs n) (closer ender.Comma) e o t f is h a p same = ((a, (p, h.proper)), λ w. next (λ v. around_front o (place_front (as_constant xs n) (spell e v))) f t _ is same w)
+filled_leads (as_constant xs n) (closer ender.Semicolon) e o t f is h a p same =
     ((a, (refl, (p, h.proper)), refl), λ w. next (λ v. around_front o (place_front (as_constant xs n) (spell e v))) f t _ is same w)
-filled_leads (as_jump kind) (closer semicolon) e o t f is h a p same = ((a, h.proper, refl), λ w. next (λ v. around_front o (place_front (as_jump kind) (spell e v))) f t _ is same w)
-filled_leads as_thrown (closer semicolon) e o t f is h a p same = ((a, h.proper, refl), λ w. next (λ v. around_front o (place_front as_thrown (spell e v))) f t _ is same w)
-filled_leads (as_test head) (closer paren) e o t f is h a p same = tested_leads head e o t f is h.proper a p same
+filled_leads (as_jump kind) (closer ender.Semicolon) e o t f is h a p same = ((a, h.proper, refl), λ w. next (λ v. around_front o (place_front (as_jump kind) (spell e v))) f t _ is same w)
+filled_leads as_thrown (closer ender.Semicolon) e o t f is h a p same = ((a, h.proper, refl), λ w. next (λ v. around_front o (place_front as_thrown (spell e v))) f t _ is same w)
+filled_leads (as_test head) (closer ender.Paren) e o t f is h a p same = tested_leads head e o t f is h.proper a p same
 filled_leads as_walked as_word e o t f is h a p same =
     ((a, (not_bare (keyword word.As) e refl (whole_at t _ e is h), h.proper)), λ w. next (λ v. around_front o (place_front as_walked (spell e v))) f t _ is same w)
-filled_leads (as_first walked r) (closer double_arrow) e o t f is h a p same =
+filled_leads (as_first walked r) (closer ender.DoubleArrow) e o t f is h a p same =
     let seen : WholeBefore (punct mark.DoubleArrow) e = whole_at t _ e is h in
     ((a, p, (seen.no_arrow refl, not_bare (punct mark.DoubleArrow) e refl seen), h.proper), λ w. next (λ v. around_front o (place_front (as_first walked r) (spell e v))) f t _ is same w)
-filled_leads (as_first walked r) (closer paren) e o t f is h a p same =
+filled_leads (as_first walked r) (closer ender.Paren) e o t f is h a p same =
     ((a, (p.0, p.1, tt, h.proper)), λ w. next (λ v. around_front o (place_front (as_first walked r) (spell e v))) f t _ is same w)
-filled_leads (as_second walked key r) (closer paren) e o t f is h a p same =
+filled_leads (as_second walked key r) (closer ender.Paren) e o t f is h a p same =
     ((a, (p.0.0, p.0.1, (p.1, p.2), h.proper)), λ w. next (λ v. around_front o (place_front (as_second walked key r) (spell e v))) f t _ is same w)
-filled_leads (as_label d form cases) (closer colon) e o t f is h a p same =
+filled_leads (as_label d form cases) (closer ender.Colon) e o t f is h a p same =
     ((a, (p.0, p.1, (not_bare (punct mark.Colon) e refl (whole_at t _ e is h), h.proper)), tt, refl), λ w. next (λ v. around_front o (place_front (as_label d form cases) (spell e v))) f t _ is same w)
-filled_leads (as_label d form cases) (closer semicolon) e o t f is h a p same =
+filled_leads (as_label d form cases) (closer ender.Semicolon) e o t f is h a p same =
     ((a, (p.0, p.1, h.proper), tt, refl), λ w. next (λ v. around_front o (place_front (as_label d form cases) (spell e v))) f t _ is same w)
 filled_leads _ _ e o t f is h a p same = tt
 
@@ -183,12 +185,12 @@ class_leads body catches xs n o t f a h same = bar_leads body catches xs n o t f
 
 name_leads : (names : Names) (x : Ending) (n : Name Nothing) (o : Around) (t : Symbol) (f : Front) → EndingSays x t → SoundAround o → SoundNames names
     → Same (λ w. around_front o (names_front names (spelled_in names n ∷ w))) f → Leads Reached (with_one f t) (name_step names n o t x)
-name_leads (of_globals names) (closer comma) n o t f is a h same = ((a, tt), λ w. next (λ v. around_front o (names_front (of_globals names) (symbol.variable n.text ∷ v))) f t _ is same w)
-name_leads (of_globals names) (closer semicolon) n o t f is a h same =
+name_leads (of_globals names) (closer ender.Comma) n o t f is a h same = ((a, tt), λ w. next (λ v. around_front o (names_front (of_globals names) (symbol.variable n.text ∷ v))) f t _ is same w)
+name_leads (of_globals names) (closer ender.Semicolon) n o t f is a h same =
     ((a, refl, refl), λ w. next (λ v. around_front o (names_front (of_globals names) (symbol.variable n.text ∷ v))) f t _ is same w)
 name_leads (of_globals names) _ n o t f is a h same = tt
-name_leads (of_statics xs) (closer comma) n o t f is a h same = ((a, (h, tt)), λ w. next (λ v. around_front o (names_front (of_statics xs) (symbol.variable n.text ∷ v))) f t _ is same w)
-name_leads (of_statics xs) (closer semicolon) n o t f is a h same =
+name_leads (of_statics xs) (closer ender.Comma) n o t f is a h same = ((a, (h, tt)), λ w. next (λ v. around_front o (names_front (of_statics xs) (symbol.variable n.text ∷ v))) f t _ is same w)
+name_leads (of_statics xs) (closer ender.Semicolon) n o t f is a h same =
     ((a, (refl, (h, tt)), refl), λ w. next (λ v. around_front o (names_front (of_statics xs) (symbol.variable n.text ∷ v))) f t _ is same w)
 name_leads (of_statics xs) _ n o t f is a h same =
     assign_leads (expected (as_static xs n) o) (λ w. around_front o (names_front (of_statics xs) (symbol.variable n.text ∷ w))) f t same (λ s. ((a, h, nothing_read), s))
@@ -222,9 +224,9 @@ target_leads place g o t f a p marked unmarked same =
 
 default_leads : (x : Ending) (e : Form) (form : SwitchForm) (cases : Cases Nothing) (o : Around) (t : Symbol) (f : Front) → EndingSays x t → SoundAround o → Proper e → AreProperCases cases
     → Same (λ w. around_front o (switch_front e form cases (keyword word.Default ∷ w))) f → Leads Reached (with_one f t) (default_step e form cases o x)
-default_leads (closer colon) e form cases o t f is a p q same =
+default_leads (closer ender.Colon) e form cases o t f is a p q same =
     ((a, (p, q, tt), tt, refl), λ w. next (λ v. around_front o (switch_front e form cases (keyword word.Default ∷ v))) f t _ is same w)
-default_leads (closer semicolon) e form cases o t f is a p q same =
+default_leads (closer ender.Semicolon) e form cases o t f is a p q same =
     ((a, (p, q, tt), tt, refl), λ w. next (λ v. around_front o (switch_front e form cases (keyword word.Default ∷ v))) f t _ is same w)
 default_leads _ e form cases o t f is a p q same = tt
 
