@@ -26,7 +26,7 @@ use Rattle.php_parse_operands.specs.Walk.{Leads, Halts, Rests, walk, short}
 use Rattle.php_reader.specs.Seen.{test, head_beginning, NoOperand}
 use Rattle.php_parse_operands.proofs.Moves.{leads, leads_halts, move, sticks, inside, finish_instance, draw, call_halts, close, unclosed_halts}
 use Rattle.php_parse_operands.proofs.Enters.{question_enters, static_ends}
-use Rattle.php_parse_prefixes.proofs.Prefixes.{rests_same}
+use Rattle.php_parse_prefixes.proofs.Fronts.{rests_same}
 
 -- ---- operators between two operands
 

@@ -22,7 +22,7 @@ use Rattle.php_parse_operands.specs.Answer.{Fails, Found}
 use Rattle.php_parse_body.specs.Climb.{Completes, Waits, LeadsOn, Pends}
 use Rattle.php_parse_operands.proofs.Moves.{leads, weaken}
 use Rattle.php_parse_body.proofs.Joins.{right_bounds}
-use Rattle.php_parse_prefixes.proofs.Prefixes.{operator_reads, operator_rests}
+use Rattle.php_parse_prefixes.proofs.Fronts.{operator_reads, operator_rests}
 use Rattle.php_parse_operands.proofs.Fails.{later, within}
 use Rattle.php_parse_prefixes.proofs.Founds.{behind}
 

@@ -1,3 +1,3 @@
-pub mod Prefixes
+pub mod Fronts
 pub mod Founds
 pub mod Onwards
