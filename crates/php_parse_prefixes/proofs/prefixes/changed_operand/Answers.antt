@@ -11,9 +11,9 @@ use Rattle.php_reader.specs.Seen.{rest}
 use Rattle.php_grammar.proofs.expression.Trees.{open_by_ends}
 use Rattle.php_reader.specs.RoleView.{opening_view}
 use Rattle.php_parse_operands.proofs.Moves.{leads, weaken, settle, draw}
-use Rattle.php_parse_body.proofs.Founds.{behind, static_alone}
-use Rattle.php_parse_body.proofs.Joins.{rests_same, counted_spans}
-use Rattle.php_parse_body.proofs.prefixes.changed_operand.Goals as goal
+use Rattle.php_parse_prefixes.proofs.Founds.{behind, static_alone}
+use Rattle.php_parse_prefixes.proofs.Fronts.{rests_same, counted_spans}
+use Rattle.php_parse_prefixes.proofs.prefixes.changed_operand.Goals as goal
 
 pub returns-in-Some : goal.returns-in-Some
 returns-in-Some g c =

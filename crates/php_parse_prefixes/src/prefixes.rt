@@ -11,11 +11,11 @@ ghost use Rattle.php_grammar.specs.expression.Role.{beginning, closes, continuat
 ghost use Rattle.php_ast.specs.declared.operator.Assign.TheVariants.{Plain};
 ghost use Rattle.php_reader.specs.declared.role.Opening.TheVariants.{Static};
 ghost use Rattle.php_parse_operands.specs.Answer.{AnswersHere};
-ghost use Rattle.php_parse_body.specs.Behind.{AnswersAssigned, AnswersYield, SeesChange, SeesStatic};
+ghost use Rattle.php_parse_prefixes.specs.Prefixes.{AnswersAssigned, AnswersYield, SeesChange, SeesStatic};
 ghost use Rattle.php_reader.specs.Seen.{Follows, Shows, rest, test};
 ghost use Rattle.php_reader.specs.RoleView.{next_view, opening_view};
 
-use crate::pending::{edge_of, right_of};
+use crate::edges::{edge_of, right_of};
 use php_ast::{Assign, Count, Prefix, power_of_yield, prefix_power_of, row_of_assignment};
 use php_build::build::{
     assign_expr, assign_reference_expr, count_expr, prefix_expr, yield_nothing_expr,
@@ -39,7 +39,7 @@ fn names_member(behind: Next) -> bool
 }
 
 /// What the token behind a `static` does that stands alone, with no `::` behind it.
-pub(crate) fn static_alone(tokens: &Tokens, at: usize, opening: Opening) -> Option<Next>
+pub fn static_alone(tokens: &Tokens, at: usize, opening: Opening) -> Option<Next>
     requires { at + 1 < 2 ^ 64 }
     ensures { SeesStatic tokens.now at opening result }
 {
@@ -248,7 +248,7 @@ fn yielding<R: ReadsInner>(parser: &Parser<R>, at: usize) -> Result<Read, Stop>
 }
 
 /// What stands at a place before the first operator behind it.
-pub(crate) fn first<R: ReadsInner>(parser: &Parser<R>, at: usize) -> Result<Read, Stop>
+pub fn first<R: ReadsInner>(parser: &Parser<R>, at: usize) -> Result<Read, Stop>
     requires within { at ≤ length parser.now.reader.tokens.now }
     ensures { AnswersHere parser.now.reader free free at result }
 {

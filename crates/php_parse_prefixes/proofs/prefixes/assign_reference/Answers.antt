@@ -3,8 +3,8 @@ use Rattle.std.proofs.lemmas.Result.{err_from_is_err_and}
 use Rattle.php_parse_operands.proofs.Fails.{within}
 use Rattle.php_ast.specs.expression.Tree.{assign, by_reference}
 use Rattle.php_grammar.specs.expression.Machine.{assign_open}
-use Rattle.php_parse_body.proofs.Joins.{operator_reads, operator_rests, reference_opens, assign_spans}
-use Rattle.php_parse_body.proofs.prefixes.assign_reference.Goals as goal
+use Rattle.php_parse_prefixes.proofs.Fronts.{operator_reads, operator_rests, reference_opens, assign_spans}
+use Rattle.php_parse_prefixes.proofs.prefixes.assign_reference.Goals as goal
 
 pub returns-in_err-source : goal.returns-in_err-source
 returns-in_err-source g c = λ f start spans low.

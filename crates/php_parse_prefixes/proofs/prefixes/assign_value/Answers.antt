@@ -3,8 +3,8 @@ use Rattle.std.proofs.lemmas.Result.{err_from_is_err_and}
 use Rattle.php_parse_operands.proofs.Fails.{within}
 use Rattle.php_ast.specs.expression.Tree.{assign, by_value}
 use Rattle.php_grammar.specs.expression.Machine.{assign_open}
-use Rattle.php_parse_body.proofs.Joins.{operator_reads, operator_rests, value_opens, assign_spans}
-use Rattle.php_parse_body.proofs.prefixes.assign_value.Goals as goal
+use Rattle.php_parse_prefixes.proofs.Fronts.{operator_reads, operator_rests, value_opens, assign_spans}
+use Rattle.php_parse_prefixes.proofs.prefixes.assign_value.Goals as goal
 
 pub returns-in_err-value : goal.returns-in_err-value
 returns-in_err-value g c = λ f start spans low.

@@ -10,9 +10,9 @@ use Rattle.php_grammar.specs.expression.Machine.{yield_open, expects, holds}
 use Rattle.php_grammar.specs.expression.Laws.{head_continuation}
 use Rattle.php_reader.specs.Seen.{rest}
 use Rattle.php_parse_operands.proofs.Moves.{leads, inside}
-use Rattle.php_parse_body.proofs.Founds.{behind}
-use Rattle.php_parse_body.proofs.Joins.{operator_reads, operator_rests, yield_opens, yield_nothing_reads, yield_ends_low, yield_spans, arrow_is}
-use Rattle.php_parse_body.proofs.prefixes.yielding.Goals as goal
+use Rattle.php_parse_prefixes.proofs.Founds.{behind}
+use Rattle.php_parse_prefixes.proofs.Fronts.{operator_reads, operator_rests, yield_opens, yield_nothing_reads, yield_ends_low, yield_spans, arrow_is}
+use Rattle.php_parse_prefixes.proofs.prefixes.yielding.Goals as goal
 
 pub returns-then-yields_nothing : goal.returns-then-yields_nothing
 returns-then-yields_nothing g c =

@@ -4,8 +4,8 @@ use Rattle.php_parse_operands.proofs.Fails.{within}
 use Rattle.php_ast.specs.expression.Tree.{prefix}
 use Rattle.php_grammar.specs.expression.Machine.{prefix_open}
 use Rattle.php_grammar.proofs.expression.Fill.{prefix_bound}
-use Rattle.php_parse_body.proofs.Joins.{operator_reads, operator_rests, prefix_opens, prefix_spans}
-use Rattle.php_parse_body.proofs.prefixes.prefix.Goals as goal
+use Rattle.php_parse_prefixes.proofs.Fronts.{operator_reads, operator_rests, prefix_opens, prefix_spans}
+use Rattle.php_parse_prefixes.proofs.prefixes.prefix.Goals as goal
 
 pub returns-in_err-operand : goal.returns-in_err-operand
 returns-in_err-operand g c =
