@@ -90,7 +90,7 @@ is_same_name a b = bytes_eq a.text b.text
 abbrev pub is_alike_name : {S : Type 0} → Name S → Name S → Bool
 is_alike_name a b = str_eq_ignore_ascii_case a.text b.text
 
-abbrev function_name : {S : Type 0} → Item S → List (Name S)
+abbrev pub function_name : {S : Type 0} → Item S → List (Name S)
 function_name (of_function g) = g.name ∷ []
 function_name _ = []
 
@@ -101,23 +101,23 @@ class_name (of_interface i) = i.name ∷ []
 class_name (of_trait t) = t.name ∷ []
 class_name _ = []
 
-abbrev functions : {S : Type 0} → List (Item S) → List (Name S)
+abbrev pub functions : {S : Type 0} → List (Item S) → List (Name S)
 functions items = flat_map function_name items
 
-abbrev classes : {S : Type 0} → List (Item S) → List (Name S)
+abbrev pub classes : {S : Type 0} → List (Item S) → List (Name S)
 classes items = flat_map class_name items
 
 -- members of one kind
-abbrev method_names : Members Note → List (Name Note)
+abbrev pub method_names : Members Note → List (Name Note)
 method_names those = flat_map (λ member. map (λ m. member_name m.name) (methods_of member)) those.members
 
-abbrev property_names : {S : Type 0} → Members S → List (Name S)
+abbrev pub property_names : {S : Type 0} → Members S → List (Name S)
 property_names those = flat_map (λ member. map (λ x. x.name) (properties_of member)) those.members
 
-abbrev constant_names : Members Note → List (Name Note)
+abbrev pub constant_names : Members Note → List (Name Note)
 constant_names those = flat_map (λ member. map (λ x. member_name x.0) (constants_of member)) those.members
 
-abbrev parameter_names : {S : Type 0} → Signature S → List (Name S)
+abbrev pub parameter_names : {S : Type 0} → Signature S → List (Name S)
 parameter_names s = map (λ p. p.name) (elements s.params)
 
 -- the `default` labels of a `switch`
@@ -130,10 +130,10 @@ abbrev pub later_defaults : {S : Type 0} → Statement S → List S
 later_defaults (switch at e form cases) = drop 1 (defaults_in cases)
 later_defaults _ = []
 
-abbrev taken : {S : Type 0} → List (List ℕ) → List (Name S) → List (Name S)
+abbrev pub taken : {S : Type 0} → List (List ℕ) → List (Name S) → List (Name S)
 taken names those = filter (λ n. is_one_of names n.text) those
 
-abbrev duplicate_names : List (Item Note) → List (Name Note)
+abbrev pub duplicate_names : List (Item Note) → List (Name Note)
 duplicate_names items =
     repeated is_alike_name (functions items)
     ++ taken library_functions (functions items)
@@ -248,19 +248,19 @@ inner_words (instance_of l r) = inner_leaf r
 inner_words (instance_of_static l at) = at ∷ []
 inner_words _ = []
 
-abbrev inner_base : {S : Type 0} → Base S → List S
+abbrev pub inner_base : {S : Type 0} → Base S → List S
 inner_base (of_name n) = inner_name n
 inner_base of_array = []
 inner_base of_callable = []
 
-abbrev unless : {A : Type 0} → Bool → List A → List A
+abbrev pub unless : {A : Type 0} → Bool → List A → List A
 unless test xs = cond test [] xs
 
-abbrev yields_outside : {S : Type 0} → List (Item S) → List S
+abbrev pub yields_outside : {S : Type 0} → List (Item S) → List S
 yields_outside items = flat_map (λ x. unless x.scope.in_function (yields x.expression.tree)) (expressions items)
 
 -- in expressions, in types and in `catch`
-abbrev inner_words_outside : {S : Type 0} → List (Item S) → List S
+abbrev pub inner_words_outside : {S : Type 0} → List (Item S) → List S
 inner_words_outside items =
     flat_map (λ x. unless x.scope.in_class (inner_words x.expression.tree)) (expressions items)
     ++ flat_map (λ s. unless s.in_class (flat_map (λ t. inner_base t.base) (types_of s.signature))) (signatures items)
@@ -268,32 +268,32 @@ inner_words_outside items =
 
 -- ---- bad uses: in statements
 
-abbrev void_return : {S : Type 0} → Statement S → List S
+abbrev pub void_return : {S : Type 0} → Statement S → List S
 void_return (jump at returning (Some e)) = at ∷ []
 void_return _ = []
 
-abbrev returns_from_void : {S : Type 0} → List (Item S) → List S
+abbrev pub returns_from_void : {S : Type 0} → List (Item S) → List S
 returns_from_void items = flat_map (λ site. unless (not site.scope.is_void) (void_return site.statement)) (sites items)
 
-abbrev is_zero_or_one : ℤ → Bool
+abbrev pub is_zero_or_one : ℤ → Bool
 is_zero_or_one (pos n) = nat_lt n 2
 is_zero_or_one (negsuc n) = false
 
-abbrev declaration_at : {S : Type 0} → Statement S → List S
+abbrev pub declaration_at : {S : Type 0} → Statement S → List S
 declaration_at (declares at name n) = at ∷ []
 declaration_at _ = []
 
-abbrev is_strict_types : {S : Type 0} → Statement S → Bool
+abbrev pub is_strict_types : {S : Type 0} → Statement S → Bool
 is_strict_types (declares at name n) = str_eq_ignore_ascii_case (codes "strict_types") name.text && is_zero_or_one n
 is_strict_types _ = false
 
 -- what stands behind a proper declaration of strict types, which may be the first thing in a script alone
-abbrev behind_strict_types : {S : Type 0} → List (Item S) → List (Item S)
+abbrev pub behind_strict_types : {S : Type 0} → List (Item S) → List (Item S)
 behind_strict_types [] = []
 behind_strict_types (of_statement s ∷ items) = cond (is_strict_types s) items (of_statement s ∷ items)
 behind_strict_types (item ∷ items) = item ∷ items
 
-abbrev misplaced_declarations : {S : Type 0} → List (Item S) → List S
+abbrev pub misplaced_declarations : {S : Type 0} → List (Item S) → List S
 misplaced_declarations items = flat_map (λ site. declaration_at site.statement) (sites (behind_strict_types items))
 
 -- ---- bad uses: modifiers and bodies
@@ -306,7 +306,7 @@ is_visibility modifier.Var = true
 is_visibility _ = false
 
 -- two words that don't go together in this order or the other
-abbrev clash_one_way : ModifierWord → ModifierWord → Bool
+abbrev pub clash_one_way : ModifierWord → ModifierWord → Bool
 clash_one_way modifier.Abstract modifier.Abstract = true
 clash_one_way modifier.Abstract modifier.Final = true
 clash_one_way modifier.Abstract modifier.Private = true
@@ -317,83 +317,83 @@ clash_one_way _ _ = false
 abbrev pub clash : ModifierWord → ModifierWord → Bool
 clash a b = is_visibility a && is_visibility b || clash_one_way a b || clash_one_way b a
 
-abbrev clashing : {S : Type 0} → List (Modifier S) → List S
+abbrev pub clashing : {S : Type 0} → List (Modifier S) → List S
 clashing modifiers = map (λ m. m.note) (repeated (λ later before. clash before.word later.word) modifiers)
 
 -- A class has one word at most: each two of them are the same, or `abstract` with `final`.
-abbrev clashing_words : {S : Type 0} → List (ClassWord S) → List S
+abbrev pub clashing_words : {S : Type 0} → List (ClassWord S) → List S
 clashing_words words = map (λ m. m.note) (drop 1 words)
 
-abbrev modifiers_of : {S : Type 0} → Member S → List (Modifier S)
+abbrev pub modifiers_of : {S : Type 0} → Member S → List (Modifier S)
 modifiers_of (class_constants modifiers items) = elements modifiers
 modifiers_of (method m) = elements m.modifiers
 modifiers_of (properties modifiers variables) = elements modifiers
 modifiers_of _ = []
 
-abbrev class_words : {S : Type 0} → Item S → List (ClassWord S)
+abbrev pub class_words : {S : Type 0} → Item S → List (ClassWord S)
 class_words (of_class c) = elements c.modifiers
 class_words _ = []
 
-abbrev bad_modifiers : {S : Type 0} → List (Item S) → List S
+abbrev pub bad_modifiers : {S : Type 0} → List (Item S) → List S
 bad_modifiers items =
     flat_map (λ item. clashing_words (class_words item)) items
     ++ flat_map (λ those. flat_map (λ member. clashing (modifiers_of member)) those.members) (all_members items)
 
-abbrev is_abstract_word : ModifierWord → Bool
+abbrev pub is_abstract_word : ModifierWord → Bool
 is_abstract_word modifier.Abstract = true
 is_abstract_word _ = false
 
-abbrev is_abstract : {S : Type 0} → Method S → Bool
+abbrev pub is_abstract : {S : Type 0} → Method S → Bool
 is_abstract m = is_any (λ x. is_abstract_word x.word) (elements m.modifiers)
 
-abbrev has : {A : Type 0} → Option A → Bool
+abbrev pub has : {A : Type 0} → Option A → Bool
 has None = false
 has (Some x) = true
 
 -- whether a method has a body where it may have none, or none where it needs one
-abbrev is_bad_body : {S : Type 0} → Owner → Method S → Bool
+abbrev pub is_bad_body : {S : Type 0} → Owner → Method S → Bool
 is_bad_body of_a_class m = cond (is_abstract m) (has m.body) (not (has m.body))
 is_bad_body of_an_interface m = has m.body
 
-abbrev bad_bodies : {S : Type 0} → List (Item S) → List S
+abbrev pub bad_bodies : {S : Type 0} → List (Item S) → List S
 bad_bodies items =
     flat_map (λ those. flat_map (λ member. flat_map (λ m. where_true (is_bad_body those.owner m) (member_note m.name)) (methods_of member)) those.members)
     (all_members items)
 
-abbrev of_interfaces : {S : Type 0} → Members S → List (Member S)
+abbrev pub of_interfaces : {S : Type 0} → Members S → List (Member S)
 of_interfaces those = of_owner those.owner those.members
   where
     of_owner : {S : Type 0} → Owner → List (Member S) → List (Member S)
     of_owner of_a_class members = []
     of_owner of_an_interface members = members
 
-abbrev properties_of_interfaces : {S : Type 0} → List (Item S) → List S
+abbrev pub properties_of_interfaces : {S : Type 0} → List (Item S) → List S
 properties_of_interfaces items =
     flat_map (λ those. flat_map (λ member. map (λ x. x.name.note) (properties_of member)) (of_interfaces those)) (all_members items)
 
 -- ---- bad uses: parameters, rules and names
 
 -- a default of the parameter that takes all further values, and each parameter behind that one
-abbrev bad_params : {S : Type 0} → Bool → List (Param S) → List S
+abbrev pub bad_params : {S : Type 0} → Bool → List (Param S) → List S
 bad_params is_behind [] = []
 bad_params is_behind (p ∷ ps) = where_true (is_behind || p.is_variadic && has p.default) p.name.note ++ bad_params (is_behind || p.is_variadic) ps
 
-abbrev bad_parameters : {S : Type 0} → List (Item S) → List S
+abbrev pub bad_parameters : {S : Type 0} → List (Item S) → List S
 bad_parameters items = flat_map (λ s. bad_params false (elements s.signature.params)) (signatures items)
 
-abbrev rules_of : {S : Type 0} → Member S → List (Rule S)
+abbrev pub rules_of : {S : Type 0} → Member S → List (Rule S)
 rules_of (uses_by at names rules) = elements rules
 rules_of _ = []
 
-abbrev empty_rule : {S : Type 0} → Rule S → List S
+abbrev pub empty_rule : {S : Type 0} → Rule S → List S
 empty_rule (renames at origin name None None) = at ∷ []
 empty_rule _ = []
 
-abbrev empty_rules : {S : Type 0} → List (Item S) → List S
+abbrev pub empty_rules : {S : Type 0} → List (Item S) → List S
 empty_rules items =
     flat_map (λ those. flat_map (λ member. flat_map empty_rule (rules_of member)) those.members) (all_members items)
 
-abbrev reserved_classes : {S : Type 0} → List (Item S) → List S
+abbrev pub reserved_classes : {S : Type 0} → List (Item S) → List S
 reserved_classes items = map (λ n. n.note) (taken no_class_names (classes items))
 
 abbrev pub bad_use : List (Item Note) → List Note

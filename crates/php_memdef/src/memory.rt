@@ -7,6 +7,7 @@ ghost use Rattle.php_memdef.specs.Views.{Shows, found, later_entry, is_aliased, 
 ghost use Rattle.php_memdef.specs.Conditions.{IsBlock, IsObject, IsPlace};
 ghost use Rattle.php_memdef.specs.Operations as op;
 ghost use Rattle.php_memdef.specs.Operations.{Can, run, effect, cost};
+ghost use Rattle.php_memdef.specs.Sound.{IsSound};
 ghost use Rattle.php_memdef.specs.Meanings.{SomeMeant, EachMeant, Keeps, Does, Answers, Enters, MakesNone, MakesAtMost};
 
 use crate::answer::{Fallen, Met, NoObject, Peek, Read, Wrote};
@@ -261,4 +262,7 @@ pub trait Memory {
     /// The count of array entries that were really made. It stops at the greatest value of its type.
     fn made(&self) -> u64
         ensures { result ≡ made_of self.now };
+
+    /// Each memory of the model that it can be taken for is sound.
+    ghost meant_is_sound: { (s : Self) (m : Mem) → means s m → IsSound m };
 }

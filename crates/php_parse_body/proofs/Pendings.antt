@@ -21,9 +21,10 @@ use Rattle.php_parse_operands.specs.Walk.{Leads, Rests}
 use Rattle.php_parse_operands.specs.Answer.{Fails, Found}
 use Rattle.php_parse_body.specs.Climb.{Completes, Waits, LeadsOn, Pends}
 use Rattle.php_parse_operands.proofs.Moves.{leads, weaken}
-use Rattle.php_parse_body.proofs.Joins.{operator_reads, operator_rests, right_bounds}
+use Rattle.php_parse_body.proofs.Joins.{right_bounds}
+use Rattle.php_parse_prefixes.proofs.Fronts.{operator_reads, operator_rests}
 use Rattle.php_parse_operands.proofs.Fails.{later, within}
-use Rattle.php_parse_body.proofs.Founds.{behind}
+use Rattle.php_parse_prefixes.proofs.Founds.{behind}
 
 pub row_bounds : (b : Between) → (0 < right (row_between b)) × (right (row_between b) ≤ free)
 row_bounds (between.Binary op) = let b = right_bounds op in (b.0, b.1)

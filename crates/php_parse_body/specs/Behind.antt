@@ -1,57 +1,26 @@
 -- What the productions answer that read what stands behind an expression, and what looks answer them.
-use Rattle.std.specs.Prelude.{◌≡◌, ◌≢◌, ◌≤◌, ◌<◌, ℕ, ◌+◌, Option, Some, None, Result, List, ◌∷◌}
+use Rattle.std.specs.Prelude.{◌≡◌, ◌≤◌, ◌<◌, ℕ, Option, Some, None, Result, List}
 use Rattle.php_token.specs.Token.{Token}
-use Rattle.php_ast.specs.expression.Tree as tree
-use Rattle.php_ast.specs.expression.Proper.{ends, free, operand_level}
+use Rattle.php_ast.specs.expression.Proper.{ends, free}
 use Rattle.php_ast.specs.expression.View.{view}
-use Rattle.php_grammar.specs.expression.Role as role
 use Rattle.php_grammar.specs.expression.Role.{continuation, draws, draw_strength}
-use Rattle.php_grammar.specs.expression.Machine.{Form, expects, holds, yield_open}
+use Rattle.php_grammar.specs.expression.Machine.{Form, expects, holds}
 use Rattle.php_reader.specs.declared.reader.Reader.{Reader}
 use Rattle.php_reader.specs.declared.fail.Stop.{Stop}
 use Rattle.php_parse_operands.specs.declared.read.Read.{Read}
-use Rattle.php_parse_operands.specs.declared.read.Operand.{Operand}
-use Rattle.php_reader.specs.declared.role.Opening.{Opening}
-use Rattle.php_reader.specs.declared.role.Opening.TheVariants as opening
-use Rattle.php_reader.specs.RoleView.{next_view, infix_view}
-use Rattle.php_parse_body.specs.declared.prefixes.Change.{Change}
-use Rattle.php_parse_body.specs.declared.prefixes.Change.TheVariants as change
+use Rattle.php_reader.specs.RoleView.{infix_view}
 use Rattle.php_reader.specs.declared.role.Infix.{Infix}
-use Rattle.php_reader.specs.declared.role.Next.{Next}
-use Rattle.php_reader.specs.Seen.{rest, Follows, Shows}
+use Rattle.php_reader.specs.Seen.{rest, Shows}
 use Rattle.php_parse_operands.specs.Walk.{Rests}
 use Rattle.php_parse_operands.specs.Answer.{Fails, Spans, Answers}
 
 -- ---- what stands behind an expression, in all open forms in which that expression may stand
-
--- an assignment to an operand
-abbrev pub AnswersAssigned : Operand → Reader → Result Read Stop → Type 0
-AnswersAssigned left reader r =
-    (f : Form) (start : ℕ) → Spans reader.tokens.now (view left.expr) f start left.next → free < ends f
-    → Answers reader.room free free (λ s. holds f s) (rest reader.tokens.now left.next) reader.tokens.now start left.next r
-
--- the value behind the key of a `yield` that stands at a place
-abbrev pub AnswersYield : Read → Reader → ℕ → Result Read Stop → Type 0
-AnswersYield key reader at r =
-    (k : Form) → Spans reader.tokens.now (view key.expr) k (at + 1) key.next
-    → Answers reader.room free free (λ s. holds k (yield_open ∷ s)) (rest reader.tokens.now key.next) reader.tokens.now at key.next r
 
 -- an operator and its right side
 abbrev pub AnswersBehind : Read → ℕ → Reader → Result Read Stop → Type 0
 AnswersBehind left least reader r =
     (f : Form) (start : ℕ) → Spans reader.tokens.now (view left.expr) f start left.next → ends f ≡ left.edge
     → Answers reader.room least free (λ s. holds f s) (rest reader.tokens.now left.next) reader.tokens.now start left.next r
-
--- what the token behind a `static` does that stands alone
-abbrev pub SeesStatic : List Token → ℕ → Opening → Option Next → Type 0
-SeesStatic tokens at begun (Some behind) = (begun ≡ opening.Static) × (next_view behind ≢ draws (role.by_select tree.colons)) × Follows tokens (at + 1) (next_view behind)
-SeesStatic tokens at begun None = begun ≡ opening.Static → Shows continuation tokens (at + 1) (draws (role.by_select tree.colons))
-
--- whether the operand before is changed, where no suffix follows
-abbrev pub SeesChange : List Token → ℕ → Option Change → Type 0
-SeesChange tokens at None = (edge : ℕ) → Rests operand_level edge (rest tokens at) → Rests free edge (rest tokens at)
-SeesChange tokens at (Some (change.Assign op)) = Shows continuation tokens at (draws (role.by_assign op))
-SeesChange tokens at (Some (change.Count count)) = Shows continuation tokens at (draws (role.by_count count))
 
 -- whether an operator goes on with an expression
 abbrev pub SeesInfix : List Token → ℕ → ℕ → ℕ → Option Infix → Type 0

@@ -10,9 +10,9 @@ ghost use Rattle.php_reader.specs.Seen.{Follows};
 
 use crate::operators::operator;
 use crate::pending::Onward;
-use crate::prefixes::first;
 use php_lex::Tokens;
 use php_parse_operands::{Calls, Inner, Parser, Read, ReadsInner};
+use php_parse_prefixes::first;
 use php_reader::look::start_at;
 use php_reader::role::{Infix, Next, Start, infix_strength};
 use php_reader::{Reader, Stop};

@@ -5,7 +5,6 @@ mod expression;
 mod operators;
 mod parse;
 mod pending;
-mod prefixes;
 
 pub use expression::read_expression;
 pub use parse::parse_expr;

@@ -16,13 +16,13 @@ ghost use Rattle.php_reader.specs.declared.role.Opening.TheVariants.{Static};
 ghost use Rattle.php_reader.specs.Seen.{Shows};
 ghost use Rattle.php_reader.specs.RoleView.{infix_view, opening_view};
 
-use crate::pending::{Between, Onward, Pending, edge_of, right_of};
-use crate::prefixes::static_alone;
+use crate::pending::{Between, Onward, Pending};
 use php_ast::{Binary, Grouping, row_of, row_of_instance_of};
 use php_build::build::{binary_expr, instance_of_expr, instance_of_static_expr};
 use php_grammar::Closer;
 use php_lex::Tokens;
 use php_parse_operands::{Parser, Read, ReadsInner};
+use php_parse_prefixes::{edge_of, right_of, static_alone};
 use php_reader::Stop;
 use php_reader::limit::LEAST_POWER;
 use php_reader::look::{closed_by, opening_at, sees_colon, spot};

@@ -6,9 +6,10 @@ ghost use Rattle.php_ast.specs.expression.View.{view};
 ghost use Rattle.php_build.specs.Flat.{is_flat};
 ghost use Rattle.php_parse_body.specs.BetweenView.{are_flat_sides, between_view, row_between};
 
-use php_ast::{Binary, Expr, Grouping, Link, Row, row_of, row_of_choice};
+use php_ast::{Binary, Expr, Link, Row, row_of, row_of_choice};
 use php_build::build::{binary_expr, link_expr};
 use php_parse_operands::Read;
+use php_parse_prefixes::{edge_of, right_of};
 use sqlite_items::Boxed;
 use std::alloc::{AllocError, Global};
 
@@ -39,28 +40,6 @@ pub(crate) enum Onward {
     Behind(Read),
     /// Into its right side, which begins at a place.
     Inside(Pending, usize),
-}
-
-/// The least power of an operator in the right side of one with this row.
-pub(crate) fn right_of(row: Row) -> u8
-    requires { row.power < free }
-    ensures { result ≡ right row }
-{
-    match row.grouping {
-        Grouping::ToRight => row.power,
-        Grouping::ToLeft | Grouping::Ungrouped => row.power + 1,
-    }
-}
-
-/// What must be more than the power of an operator that follows one with this row.
-pub(crate) fn edge_of(row: Row) -> u8
-    requires { row.power < free }
-    ensures { result ≡ edge row }
-{
-    match row.grouping {
-        Grouping::ToLeft => row.power + 1,
-        Grouping::ToRight | Grouping::Ungrouped => row.power,
-    }
 }
 
 /// The row of an operator.

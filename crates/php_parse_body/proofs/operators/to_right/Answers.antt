@@ -5,7 +5,8 @@ use Rattle.php_ast.specs.expression.Tree.{binary}
 use Rattle.php_grammar.proofs.expression.Fill.{binary_bound}
 use Rattle.php_grammar.specs.expression.Machine.{binary_open}
 use Rattle.php_parse_operands.proofs.Fails.{within}
-use Rattle.php_parse_body.proofs.Joins.{operator_reads, operator_rests, binary_opens, binary_spans, right_bounds}
+use Rattle.php_parse_body.proofs.Joins.{binary_opens, binary_spans, right_bounds}
+use Rattle.php_parse_prefixes.proofs.Fronts.{operator_reads, operator_rests}
 use Rattle.php_parse_body.proofs.operators.to_right.Goals as goal
 
 pub returns-in_err-right : goal.returns-in_err-right

@@ -1,0 +1,7 @@
+pub mod Lists
+mod Views
+mod ShapeLemmas
+mod WordLemmas
+mod UseLemmas
+mod WalkLemmas
+pub mod Bridge

@@ -1,0 +1,7 @@
+pub mod Over
+pub mod Uses
+pub mod Spots
+pub mod Met
+pub mod Elements
+pub mod Shapes
+pub mod Faults
