@@ -5,9 +5,8 @@ use Rattle.php_ast.specs.statement.View.{elseif_lists_from}
 use Rattle.php_grammar.specs.statement.Role.{by_elseif, fixed_colon}
 use Rattle.php_grammar.specs.statement.Forms.{elseif_list_head, of_elseif, due, due_in_list}
 use Rattle.std.specs.List.{list_all}
-use Rattle.php_build.proofs.Flats.{both}
 use Rattle.php_flat.specs.Statements.{is_flat_elseif_list}
-use Rattle.php_parse_simple.proofs.Flats.{all_with}
+use Rattle.php_parse_statement.proofs.Flats.{elseif_lists_flat}
 use Rattle.php_grammar.specs.statement.Machine.{headed}
 use Rattle.php_parse_statement.specs.FormAnswer.{behind_lists, last_list, last_statements}
 use Rattle.php_parse_simple.specs.Parts.{elseif_list_parts}
@@ -95,7 +94,7 @@ loop-items-preserved g c =
           (l.reads (of_elseif e body v.parts t.form));
       ended = f.ended;
       within = l.within;
-      flat = all_with is_flat_elseif_list c.loop-items.items _ _ c.in_ok-push.ensures.ok v.flat (both t.flat l.flat);
+      flat = elseif_lists_flat c.loop-items.items _ _ c.in_ok-push.ensures.ok v.flat t.flat l.flat;
     }
 
 pub loop-items-smaller : goal.loop-items-smaller

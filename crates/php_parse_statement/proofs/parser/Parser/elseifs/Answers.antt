@@ -4,9 +4,8 @@ use Rattle.php_ast.specs.statement.Tree.{no_elseif, and_elseif}
 use Rattle.php_ast.specs.statement.View.{elseifs_from, statement_view}
 use Rattle.php_grammar.specs.statement.Forms.{elseif_head, elseif_open, due_statement}
 use Rattle.std.specs.List.{list_all}
-use Rattle.php_build.proofs.Flats.{both}
 use Rattle.php_flat.specs.Statements.{is_flat_statement, is_flat_elseif}
-use Rattle.php_parse_simple.proofs.Flats.{all_with}
+use Rattle.php_parse_statement.proofs.Flats.{elseifs_flat}
 use Rattle.php_grammar.specs.statement.Machine.{headed}
 use Rattle.php_parse_statement.specs.FormAnswer.{behind_parts}
 use Rattle.php_parse_simple.specs.Parts.{elseif_parts}
@@ -65,7 +64,7 @@ loop-items-preserved g c =
           (t.reads (elseif_head e body v.parts)))
           (r.reads (elseif_open e body v.parts t.form) refl);
       within = r.within;
-      flat = all_with is_flat_elseif c.loop-items.items _ _ c.in_ok-push.ensures.ok v.flat (both t.flat (ap is_flat_statement c.in_ok-body.ensures ∙ c.in_ok-read.read.flat));
+      flat = elseifs_flat c.loop-items.items _ _ c.in_ok-push.ensures.ok v.flat t.flat (ap is_flat_statement c.in_ok-body.ensures ∙ c.in_ok-read.read.flat);
     }
 
 pub loop-items-smaller : goal.loop-items-smaller
