@@ -1,11 +1,3 @@
-pub mod Bridge
-pub mod Moves
-pub mod Inside
-pub mod Sees
-pub mod Fails
-pub mod Plain
-pub mod Named
 pub mod Lists
 pub mod Looping
 pub mod Listing
-pub mod Targets

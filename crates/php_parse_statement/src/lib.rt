@@ -2,18 +2,10 @@
 #![tactic(auto)]
 
 mod blocks;
-mod build;
 mod conditions;
-mod expression;
-mod heads;
 mod inner;
-mod look;
 mod loops;
-mod names;
 mod parser;
 mod read;
-mod role;
-mod simple;
-mod values;
 
-pub use read::ReadStatement;
+pub use php_parse_simple::read::ReadStatement;
