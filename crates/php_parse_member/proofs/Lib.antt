@@ -1,0 +1,9 @@
+pub mod Moves
+pub mod Steps
+pub mod Values
+pub mod Lists
+pub mod Ends
+pub mod Ruled
+pub mod Routines
+pub mod Shown
+pub mod Listing

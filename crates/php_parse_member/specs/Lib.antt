@@ -1,0 +1,4 @@
+pub mod LeadView
+pub mod Walk
+pub mod Answer
+pub mod RuleAnswer
