@@ -1,0 +1,10 @@
+mod Blanks
+mod Declared
+mod Depths
+mod Exactly
+mod Heads
+mod Inside
+mod Listings
+mod Moves
+mod Named
+mod Sequences
