@@ -1,8 +1,12 @@
-// What bodies are read by: expressions, statements and signatures of functions, each from the tokens at a place. The three
-// calls are those of the crates below, with their contracts; who reads bodies needs this crate alone.
+// Reads the expressions of a script from its tokens.
 #![tactic(auto)]
 
-pub use php_parse_expression::parse_expr;
-pub use php_parse_signature::parse_signature;
-pub use php_parse_statement::parse_statement;
+mod expression;
+mod operators;
+mod parse;
+mod pending;
+
+pub use expression::read_expression;
+pub use parse::parse_expr;
+pub use php_parse_operands::Read;
 pub use php_reader::ParseFail;
