@@ -1,5 +1,6 @@
 pub mod Examples
 pub mod ComparisonExamples
+pub mod ArrayExamples
 pub mod EvenLemmas
 pub mod OutputRules
 pub mod AllowanceRules

@@ -7,9 +7,10 @@ use Rattle.php_value.specs.declared.fault.Stopped.TheVariants.{Fault as Ends, Th
 use Rattle.php_value.specs.declared.scalar.Scalar.{Scalar}
 use Rattle.php_value.specs.declared.scalar.Scalar.TheVariants as scalar
 use Rattle.php_value.specs.declared.error_kind.TheConstants.ErrorKind.{UNSUPPORTED_OPERANDS}
-use Rattle.php_value.specs.Conversion.{bool_of, int_of, text_of}
+use Rattle.php_value.specs.Conversion.{int_of, text_of}
 use Rattle.php_entries.specs.Listing.{Listing}
 use Rattle.php_memdef.specs.Contents.{Content, null, truth, int, text, array, object}
+pub use Rattle.php_compare.specs.Ordering.{truth_of}
 
 abbrev pub scalar_of : Content → Option Scalar
 scalar_of null = Some scalar.Null
@@ -21,15 +22,6 @@ scalar_of (object h) = None
 
 abbrev pub has_entries : Listing ℕ → Bool
 has_entries t = nat_lt 0 (length t.entries)
-
--- an array is a truth where it has entries, and an object always is one
-abbrev pub truth_of : Content → Bool
-truth_of null = false
-truth_of (truth b) = b
-truth_of (int i) = bool_of (scalar.Int i)
-truth_of (text bytes) = bool_of (scalar.Str bytes)
-truth_of (array t) = has_entries t
-truth_of (object h) = true
 
 -- an array's text is always the same
 abbrev pub text_of_content : Content → Option (List ℕ)

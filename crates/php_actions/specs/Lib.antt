@@ -18,3 +18,4 @@ pub mod Start
 pub mod Allowances
 pub mod Examples
 pub mod ComparisonExamples
+pub mod ArrayExamples

@@ -6,6 +6,7 @@ ghost use Rattle.php_actions.specs.Plan.{rules};
 ghost use Rattle.php_actions.specs.Allowances.{output_of, HasMoreTicks};
 ghost use Rattle.php_actions.specs.declared.ending.Ending.TheVariants.{Cut};
 ghost use Rattle.php_actions.specs.ComparisonExamples.{ComparisonExamples};
+ghost use Rattle.php_actions.specs.ArrayExamples.{ArrayExamples, UnionIsTooLarge};
 ghost use Rattle.php_actions.specs.Examples.{StackExamples, PlaceExamples, OperatorExamples, OutputExamples, OtherExamples, PlanExamples, RunExamples};
 
 /// Actions, what comes between them, and small runs come to what they should.
@@ -22,6 +23,12 @@ pub fn worked_examples()
 /// Comparisons come to what they should.
 pub fn worked_comparisons()
     ensures { ComparisonExamples }
+{}
+
+/// Places in arrays and unions of arrays come to what they should.
+pub fn worked_arrays()
+    ensures examples { ArrayExamples }
+    ensures limit { UnionIsTooLarge }
 {}
 
 /// No step takes back what was written, and data with more ticks left goes on in the same way until the other

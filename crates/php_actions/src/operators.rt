@@ -6,8 +6,9 @@ use php_value::Op;
 #[derive(Drop)]
 pub enum OperatorAction {
     /// [x y] → [z]. Throws `UNSUPPORTED_OPERANDS`, `DIVISION_BY_ZERO`, `ARITHMETIC`; faults `Overflow`,
-    /// `InexactQuotient`, `FloatNeeded`, `StringLimit`. An operand that is an array has the text `Array`, and
-    /// no number.
+    /// `InexactQuotient`, `FloatNeeded`, `StringLimit`. The sum of two arrays is their union: copies of the
+    /// entries of x, and behind them of those of y whose keys x lacks; fault `ArrayLimit`. Else an operand that is
+    /// an array has the text `Array`, and no number.
     Operate(Op),
     /// [x y] → [what is asked of their order]: a bool, or an int for `<=>`. Throws `OBJECT_AGAINST_STRING`,
     /// `NESTING_TOO_DEEP`; fault `FloatNeeded`.
@@ -23,7 +24,8 @@ pub enum OperatorAction {
     ToBool,
     /// [x] → [bool]
     Not,
-    /// [x] → [int]. Fault `FloatNeeded`. An array is 1 where it has entries, else 0.
+    /// [x] → [int]. Throws `UNSUPPORTED_OPERANDS`, of an object; fault `FloatNeeded`. An array is 1 where it has
+    /// entries, else 0.
     ToInt,
     /// [x] → [text]
     ToText,

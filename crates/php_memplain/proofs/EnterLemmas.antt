@@ -17,7 +17,7 @@ use Rattle.php_memplain_cells.specs.Seen.{scope_seen}
 use Rattle.php_memplain_cells.specs.Counts.{count_of_store, count_of_object}
 use Rattle.php_memplain_cells.specs.Memory.{memory_seen, IsCounted}
 use Rattle.php_memplain_cells.proofs.SlotLemmas.{at_seen}
-use Rattle.php_memplain.proofs.MeansLemmas.{SameAt, same_holders, same_handles}
+use Rattle.php_memplain_copy.proofs.SameLemmas.{SameAt, same_holders, same_handles}
 
 module _ (s : Cells) (t : Cells) (k n : ℕ) (f : Block) (free : get s.blocks k ≡ None) (u : Updates s.blocks t.blocks k (Some f)) (is : scope_seen f ≡ record no_scope { room = n }) (st : t.stores ≡ s.stores) (os : t.objects ≡ s.objects) (is_static : t.statics ≡ s.statics) where
   abbrev empty : Scope

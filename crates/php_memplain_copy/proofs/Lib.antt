@@ -1,2 +1,10 @@
-pub mod AgreeLemmas
 pub mod StoreLemmas
+pub mod AgreeLemmas
+pub mod SameLemmas
+pub mod GrownLemmas
+pub mod TakenLemmas
+pub mod WalkLemmas
+pub mod ElementLemmas
+pub mod RaiseLemmas
+pub mod ClosedLemmas
+pub mod PathLemmas

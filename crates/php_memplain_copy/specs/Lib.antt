@@ -1,2 +1,4 @@
 pub mod Copying
 pub mod More
+pub mod Walking
+pub mod Steps

@@ -1,9 +1,9 @@
 // New stores, and stores that get a further holder.
-ghost use Rattle.std.specs.Prelude.{◌≡◌, ◌+◌, [], ◌∷◌, Some, IsTrue, IfOk, IfSome, OnErr};
+ghost use Rattle.std.specs.Prelude.{◌≡◌, ◌+◌, [], ◌∷◌, Some, false, IsTrue, IfOk, IfSome, IfNone, OnErr};
 ghost use Rattle.slab.specs.Slab.{ContainsKey};
 ghost use Rattle.php_memplain_cells.specs.Seen.{content_seen, stores_seen};
 ghost use Rattle.php_memplain_copy.specs.Copying.{Puts};
-ghost use Rattle.php_memplain_copy.specs.More.{AreMore, AreSame, IsNoArray};
+ghost use Rattle.php_memplain_copy.specs.More.{AreMore, AreSame, IsNoArray, IsSoundArray};
 
 use php_base::NoMemory;
 use php_memplain_cells::{Content, Store};
@@ -27,7 +27,8 @@ pub fn put_store(stores: &mut Slab<Store>, content: Content) -> Result<usize, No
 
 /// A copy of a content that is no array; `None` exactly for an array.
 pub fn copy_unless_array(content: &Content) -> Result<Option<Content>, NoMemory>
-    ensures { IfOk result (λ copy. IfSome copy (λ c. (content_seen c ≡ content_seen content.now) × IsNoArray (content_seen c))) }
+    ensures copy { IfOk result (λ copy. IfSome copy (λ c. (content_seen c ≡ content_seen content.now) × IsNoArray (content_seen c))) }
+    ensures none { IfOk result (λ copy. IfNone copy (IsSoundArray (content_seen content.now))) }
 {
     match content {
         Content::Null => Ok(Some(Content::Null)),
@@ -35,7 +36,10 @@ pub fn copy_unless_array(content: &Content) -> Result<Option<Content>, NoMemory>
         Content::Int(number) => Ok(Some(Content::Int(*number))),
         Content::Str(text) => Ok(Some(Content::Str(text.share()?))),
         Content::Object(number) => Ok(Some(Content::Object(*number))),
-        Content::Array(_, _) => Ok(None),
+        Content::Array(entries, _) => {
+            let _count = entries.len();
+            Ok(None)
+        }
     }
 }
 
@@ -44,6 +48,7 @@ pub fn raise(stores: &mut Slab<Store>, store: usize) -> bool
     requires { ContainsKey stores.old store }
     ensures seen { stores_seen stores.new ≡ stores_seen stores.old }
     ensures raised { IsTrue result → AreMore stores.old stores.new (store ∷ []) }
+    ensures kept { result ≡ false → stores.new ≡ stores.old }
 {
     match stores[store].holders.checked_add(1) {
         Some(holders) => {

@@ -15,7 +15,6 @@ use Rattle.php_grammar.specs.declaration.SignatureMachine.{Params, in_default, w
 use Rattle.php_parse_operands.specs.Walk as inner
 use Rattle.php_parse_body.proofs.Walked.{halt_unread}
 use Rattle.php_grammar.proofs.Inside.{Alike, halts_alike}
-use Rattle.php_grammar_laws.proofs.Lends.{deeper_by}
 use Rattle.php_grammar_laws.specs.Walks.{OutcomeOf, short, deep, outcome, outcome_by, stepped, walk_signature}
 
 -- ---- what the outer machine makes of an outcome inside
@@ -61,6 +60,10 @@ stuck n params p m t w =
     ∙ stuck_by n params p t w (halt m (t ∷ w)).missing (halt m (t ∷ w)).tree (halt m (t ∷ w)).unread (halt_unread m (t ∷ w))
 
 -- the inner machine takes it
+deeper_by : (b : Bool) (n d : ℕ) → nat_lt n d ≡ b → nat_lt (suc n) (d + 1) ≡ b
+deeper_by true n d is = lt-ltb (suc n) (d + 1) (omega (arith, ltb-true n d is))
+deeper_by false n d is = le-ltb (suc n) (d + 1) (omega (arith, ltb-false n d is))
+
 taken_by : (b : Bool) (n : ℕ) (params : Params) (p : Param Nothing) (x : State) (t : Symbol) (w : List Symbol) (a : OutcomeOf (Signature Nothing)) (c : inner.Outcome)
     → walk_signature (suc n) (in_default params p x) w ≡ carried n params p (inner.walk n x w)
     → stepped (Some (in_default params p x)) b (λ y. walk_signature (suc n) y w) a (t ∷ w) ≡ carried n params p (inner.stepped (Some x) b (λ y. inner.walk n y w) c (t ∷ w))
@@ -74,7 +77,7 @@ bridge_by : (o : Option State) (n : ℕ) (params : Params) (p : Param Nothing) (
     ≡ carried n params p (inner.stepped o (nat_lt n (depth_at m t)) (λ x. inner.walk n x w) (inner.outcome (halt m (t ∷ w))) (t ∷ w))
 bridge_by None n params p m t w next = stuck n params p m t w
 bridge_by (Some x) n params p m t w next =
-    ap (λ b. stepped (Some (in_default params p x)) b (λ y. walk_signature (suc n) y w) (outcome (halt_signature (in_default params p m) (t ∷ w))) (t ∷ w)) (deeper_by (nat_lt n (depth_at m t)) n 1 (depth_at m t) refl)
+    ap (λ b. stepped (Some (in_default params p x)) b (λ y. walk_signature (suc n) y w) (outcome (halt_signature (in_default params p m) (t ∷ w))) (t ∷ w)) (deeper_by (nat_lt n (depth_at m t)) n (depth_at m t) refl)
     ∙ taken_by (nat_lt n (depth_at m t)) n params p x t w (outcome (halt_signature (in_default params p m) (t ∷ w))) (inner.outcome (halt m (t ∷ w))) (next x)
 
 pub bridge : (n : ℕ) (params : Params) (p : Param Nothing) (m : State) (w : List Symbol) → walk_signature (suc n) (in_default params p m) w ≡ carried n params p (inner.walk n m w)

@@ -1,11 +1,10 @@
-pub mod Bridge
-pub mod Moves
-pub mod Inside
-pub mod Sees
-pub mod Fails
-pub mod Plain
-pub mod Named
 pub mod Lists
 pub mod Looping
 pub mod Listing
-pub mod Targets
+pub mod Cases
+pub mod Guards
+pub mod Chosen
+pub mod Blanks
+pub mod Outermost
+mod Exactly
+pub mod Flats

@@ -16,11 +16,11 @@ use Rattle.php_grammar.specs.statement.Role.{Behind, by_else, by_elseif, by_endi
 use Rattle.php_grammar.specs.statement.Forms.{of_if, of_else, if_open, Around, due_in_list, past_if}
 use Rattle.php_grammar.specs.statement.Machine.{begin, listing, list_end, lists_step}
 use Rattle.php_grammar.specs.statement.Depth.{statement_depth, begin_depth}
-use Rattle.php_parse_statement.specs.Answer.{SpansStatement}
+use Rattle.php_parse_simple.specs.Answer.{SpansStatement}
 use Rattle.php_parse_statement.specs.FormAnswer.{last_list, last_statements, if_lists_form, size_last_list}
-use Rattle.php_parse_statement.specs.Parts.{elseif_list_parts}
-use Rattle.php_parse_statement.specs.Walk.{Leads}
-use Rattle.php_parse_statement.proofs.Moves.{move}
+use Rattle.php_parse_simple.specs.Parts.{elseif_list_parts}
+use Rattle.php_parse_simple.specs.Walk.{Leads}
+use Rattle.php_parse_simple.proofs.Moves.{move}
 
 pub if_colon : {room : ℕ} {x w : List Symbol} (e : Form) (t : Symbol) → x ≡ t ∷ w → is_colon t ≡ true → 1 ≤ room → Leads statement_depth room (λ o. past_if e o) x (λ o. due_in_list (of_if e) no_statement o) w
 if_colon e t is h roomy =

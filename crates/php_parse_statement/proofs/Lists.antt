@@ -24,18 +24,20 @@ use Rattle.php_grammar.specs.statement.Machine.{begun as begun_state, begin, lis
 use Rattle.php_grammar.specs.statement.Depth.{is_body_at, statement_depth, depth_outside, begun_depth, begin_depth, list_depth, form_depth, kept_bodies}
 use Rattle.php_grammar.specs.statement.Reading.{halt_statement, list_rest, missing_around, completed_around}
 use Rattle.php_grammar.proofs.statement.Starts.{ender, no_end, behind_list}
-use Rattle.php_parse_statement.specs.Walk.{short, deep, outcome, walk_statement, Leads, Halts, depth_before}
-use Rattle.php_parse_statement.specs.RoleView.{StartsStatement, begun_view, ends_list, head_begun}
-use Rattle.php_parse_statement.specs.declared.role.Begun.{Begun}
-use Rattle.php_parse_statement.specs.declared.role.Begun.TheVariants as begun
-use Rattle.php_parse_statement.specs.declared.read.ReadStatement.{ReadStatement}
+use Rattle.php_grammar_laws.specs.Walks.{short, deep, outcome, walk_statement}
+use Rattle.php_parse_simple.specs.Walk.{Leads, Halts, depth_before}
+use Rattle.php_parse_simple.specs.RoleView.{StartsStatement, begun_view, ends_list, head_begun}
+use Rattle.php_parse_simple.specs.declared.role.Begun.{Begun}
+use Rattle.php_parse_simple.specs.declared.role.Begun.TheVariants as begun
+use Rattle.php_parse_simple.specs.declared.read.ReadStatement.{ReadStatement}
 use Rattle.php_reader.specs.declared.reader.Reader.{Reader}
 use Rattle.php_reader.specs.declared.fail.Stop.{Stop}
 use Rattle.php_reader.specs.declared.fail.Stop.TheVariants.{Syntax, TooDeep, NoMemory}
 use Rattle.php_reader.specs.Seen.{Shows, rest}
-use Rattle.php_parse_statement.specs.Answer.{SpansStatement, Fails, AnswersBy, AnswersInside}
+use Rattle.php_parse_simple.specs.Answer.{SpansStatement, Fails, AnswersBy}
+use Rattle.php_parse_statement.specs.Within.{AnswersInside}
 use Rattle.php_parse_statement.specs.ListAnswer.{list_measure, IsBraced, AnswersBody}
-use Rattle.php_parse_statement.proofs.Moves.{moves, sinks, sticks, alike, Some_of, lacks_by}
+use Rattle.php_parse_simple.proofs.Moves.{moves, sinks, sticks, alike, Some_of, lacks_by}
 
 -- ---- the nesting in a list
 
@@ -63,6 +65,10 @@ begun_in _ list ss o = refl
 pub before_in : (w : List Symbol) (list : StatementList) (ss : Statements Nothing) (o : Around) → depth_before w (list_open list ss ∷ o) ≡ 1 + list_measure list o
 before_in [] list ss o = measure_by list ss o
 before_in (t ∷ w) list ss o = begun_in (statement_beginning t) list ss o ∙ measure_by list ss o
+
+-- of a symbol that would begin a statement there
+pub begun_deep : (list : StatementList) (ss : Statements Nothing) (o : Around) (t : Symbol) → begin_depth (list_open list ss ∷ o) t ≡ 1 + list_measure list o
+begun_deep list ss o t = begun_in (statement_beginning t) list ss o ∙ measure_by list ss o
 
 -- ---- what halts in a list
 

@@ -20,17 +20,12 @@ use Rattle.php_grammar.specs.statement.Forms.{Loop, while_loop, for_loop, foreac
 use Rattle.php_grammar.specs.statement.Machine.{begin, filled, headed, listing, list_end, loop_end, before_semicolon, released_bodies, reached_step, least_strength, advance_statement}
 use Rattle.php_grammar.specs.statement.Depth.{statement_depth, begin_depth, form_depth, kept_bodies, statement_depth_at}
 use Rattle.php_reader.specs.Seen.{test}
-use Rattle.php_parse_statement.specs.Answer.{SpansStatement}
+use Rattle.php_parse_simple.specs.Answer.{SpansStatement}
 use Rattle.php_parse_statement.specs.FormAnswer.{loop_behind, behind_parts, if_form, size_last}
-use Rattle.php_parse_statement.specs.Parts.{elseif_parts}
-use Rattle.php_parse_statement.specs.Walk.{short, walk_statement, Leads, Halts}
-use Rattle.php_parse_statement.proofs.Moves.{sticks, alike, move}
-
--- ---- tests
-
-pub test_stuck : (head : Head) (e : Form) (o : Around) (x : Ending) → x ≢ closer ender.Paren → filled (as_test head) e o x ≡ None
-test_stuck head e o (closer ender.Paren) h = absurd (h refl)
-test_stuck head e o _ h = refl
+use Rattle.php_parse_simple.specs.Parts.{elseif_parts}
+use Rattle.php_grammar_laws.specs.Walks.{short, walk_statement}
+use Rattle.php_parse_simple.specs.Walk.{Leads, Halts}
+use Rattle.php_parse_simple.proofs.Moves.{sticks, alike, move}
 
 -- ---- the body of a loop
 

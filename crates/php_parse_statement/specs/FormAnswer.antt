@@ -1,46 +1,32 @@
 -- What the functions of the parser answer that read forms with statements inside.
 use Rattle.std.specs.Prelude.{◌≡◌, ◌≢◌, ◌≤◌, ◌<◌, ℕ, ◌+◌, true, Option, Some, None, Result, Ok, Err, List, ◌∷◌, map, length}
+use Rattle.std.specs.List.{list_all}
 use Rattle.php_token.specs.Token.{Token}
-use Rattle.php_ast.specs.declared.expression.Expr.{Expr}
 use Rattle.php_ast.specs.declared.statement.Stmt.{Stmt}
 use Rattle.php_ast.specs.declared.statement.ElseIf.{ElseIf}
 use Rattle.php_ast.specs.declared.statement.Body as rust_body
-use Rattle.php_ast.specs.expression.View.{view}
-use Rattle.php_ast.specs.expression.Placed.{size, noted, notes_of}
+use Rattle.php_ast.specs.expression.Placed.{notes_of}
 use Rattle.php_ast.specs.statement.Tree.{Statement, if_only, if_else, if_lists, if_else_lists, ElseIfs, no_elseif, and_elseif, ElseIfLists, no_elseif_list, and_elseif_list, Statements, Body}
 use Rattle.php_ast.specs.statement.View.{body_view, elseifs_from, elseif_lists_from, optional, statement_view, statements_view}
 use Rattle.php_ast.specs.statement.Placed.{size_body, noted_body, size_statement, noted_statement, size_elseifs, noted_elseifs, size_elseif_lists, noted_elseif_lists, size_statements, noted_statements}
 use Rattle.php_grammar.specs.expression.Machine.{Nothing, Form}
 use Rattle.php_grammar.specs.statement.Laws.{head_behind}
 use Rattle.php_grammar.specs.statement.Role.{Behind, ends_outside, by_elseif, by_endwhile, by_endfor, by_endforeach}
-use Rattle.php_grammar.specs.statement.Forms.{Loop, while_loop, for_loop, foreach_loop, StatementList, of_if, of_elseif, if_open, elseif_open, Around, Head, StatementState, due_statement, done, due_in_list, past_if, past_loop, looped}
-use Rattle.php_grammar.specs.statement.Machine.{headed, tested, list_end, before_semicolon}
+use Rattle.php_grammar.specs.statement.Forms.{Loop, while_loop, for_loop, foreach_loop, StatementList, of_if, of_elseif, if_open, elseif_open, Around, StatementState, due_statement, done, due_in_list, past_if, past_loop, looped}
+use Rattle.php_grammar.specs.statement.Machine.{list_end, before_semicolon}
 use Rattle.php_grammar.specs.statement.Depth.{statement_depth}
+use Rattle.php_flat.specs.Statements.{is_flat_statement, are_flat_statements, is_flat_body, is_flat_elseif, is_flat_elseif_list, is_flat_last, is_flat_list}
 use Rattle.php_reader.specs.declared.reader.Reader.{Reader}
 use Rattle.php_reader.specs.declared.fail.Stop.{Stop}
 use Rattle.php_reader.specs.Seen.{rest}
-use Rattle.php_parse_statement.specs.declared.read.Entry.{Entry}
-use Rattle.php_parse_statement.specs.declared.read.Listed.{Listed}
+use Rattle.php_parse_simple.specs.declared.read.Entry.{Entry}
+use Rattle.php_parse_simple.specs.declared.read.Listed.{Listed}
 use Rattle.php_parse_statement.specs.declared.read.Branches.{Branches}
-use Rattle.php_parse_statement.specs.declared.role.After.{After}
-use Rattle.php_parse_statement.specs.RoleView.{after_view, ends_list}
-use Rattle.php_parse_statement.specs.Parts.{body_parts, elseif_parts, elseif_list_parts}
-use Rattle.php_parse_statement.specs.Walk.{Leads}
-use Rattle.php_parse_statement.specs.Answer.{Fails}
-
--- ---- a test in parentheses
-
-pub record FoundTest (room : ℕ) (tokens : List Token) (at : ℕ) (r : Entry Expr) : Type 0 where
-  pub form : Form
-  pub shown : view r.item ≡ noted (notes_of tokens) (at + 1) form
-  pub sized : at + size form + 2 ≡ r.next
-  pub reads : (head : Head) → Leads statement_depth room (λ o. headed head o) (rest tokens at) (λ o. tested head form o) (rest tokens r.next)
-  pub ahead : at < r.next
-  pub within : r.next ≤ length tokens
-
-abbrev pub AnswersTest : Reader → ℕ → Result (Entry Expr) Stop → Type 0
-AnswersTest reader at (Ok r) = FoundTest reader.room reader.tokens.now at r
-AnswersTest reader at (Err e) = (head : Head) → Fails statement_depth reader.room (λ o. headed head o) (rest reader.tokens.now at) reader.tokens.now at e
+use Rattle.php_parse_simple.specs.declared.role.After.{After}
+use Rattle.php_parse_simple.specs.RoleView.{after_view, ends_list}
+use Rattle.php_parse_simple.specs.Parts.{body_parts, elseif_parts, elseif_list_parts}
+use Rattle.php_parse_simple.specs.Walk.{Leads}
+use Rattle.php_parse_simple.specs.Answer.{Fails}
 
 -- ---- the body of a loop
 
@@ -57,6 +43,7 @@ pub record FoundLoopBody (end : Behind) (room : ℕ) (tokens : List Token) (at :
   pub reads : (loop : Loop) → loop_behind loop ≡ end → Leads statement_depth room (λ o. past_loop loop o) (rest tokens at) (λ o. done (looped loop body) o) (rest tokens r.next)
   pub ahead : at < r.next
   pub within : r.next ≤ length tokens
+  pub flat : is_flat_body r.item ≡ true
 
 abbrev pub AnswersLoopBody : After → Reader → ℕ → Result (Entry (rust_body.Body Stmt)) Stop → Type 0
 AnswersLoopBody end reader at (Ok r) = FoundLoopBody (after_view end) reader.room reader.tokens.now at r
@@ -76,6 +63,7 @@ pub record ElseIfsSoFar (room : ℕ) (tokens : List Token) (at : ℕ) (xs : List
   pub sized : at + size_elseifs parts ≡ next
   pub reads : (test : Form) (body : Statement Nothing) → Leads statement_depth room (λ o. behind_parts test body no_elseif o) (rest tokens at) (λ o. behind_parts test body parts o) (rest tokens next)
   pub within : next ≤ length tokens
+  pub flat : list_all is_flat_elseif xs ≡ true
 
 pub record FoundElseIfs (room : ℕ) (tokens : List Token) (at : ℕ) (r : Listed (ElseIf Stmt)) : Type 0 where
   pub so_far : ElseIfsSoFar room tokens at r.items r.next
@@ -105,6 +93,9 @@ pub record FoundBranches (room : ℕ) (tokens : List Token) (at : ℕ) (r : Bran
   pub reads : (test : Form) → Leads statement_depth room (λ o. due_statement (if_open test ∷ o)) (rest tokens at) (λ o. done (if_form test body parts last) o) (rest tokens r.next)
   pub ahead : at < r.next
   pub within : r.next ≤ length tokens
+  pub flat_body : is_flat_statement r.body ≡ true
+  pub flat_parts : list_all is_flat_elseif r.parts ≡ true
+  pub flat_last : is_flat_last r.last ≡ true
 
 abbrev pub AnswersBranches : Reader → ℕ → Result (Branches Stmt) Stop → Type 0
 AnswersBranches reader at (Ok r) = FoundBranches reader.room reader.tokens.now at r
@@ -145,6 +136,7 @@ pub record ElseIfListsSoFar (room : ℕ) (tokens : List Token) (at : ℕ) (xs : 
   pub reads : (test : Form) (body : Statements Nothing) → Leads statement_depth room (λ o. behind_lists test body no_elseif_list o) (rest tokens at) (λ o. behind_lists test body parts o) (rest tokens next)
   pub ended : ends_list (head_behind (rest tokens next)) ≡ true
   pub within : next ≤ length tokens
+  pub flat : list_all is_flat_elseif_list xs ≡ true
 
 pub record FoundElseIfLists (room : ℕ) (tokens : List Token) (at : ℕ) (r : Listed (ElseIf (List Stmt))) : Type 0 where
   pub so_far : ElseIfListsSoFar room tokens at r.items r.next
@@ -175,6 +167,9 @@ pub record FoundListBranches (room : ℕ) (tokens : List Token) (at : ℕ) (r : 
   pub sized : at + 1 + size_statements body + size_elseif_lists parts + size_last_list last + 2 ≡ r.next
   pub reads : (test : Form) → Leads statement_depth room (λ o. past_if test o) (rest tokens at) (λ o. done (if_lists_form test body parts last) o) (rest tokens r.next)
   pub within : r.next ≤ length tokens
+  pub flat_body : are_flat_statements r.body ≡ true
+  pub flat_parts : list_all is_flat_elseif_list r.parts ≡ true
+  pub flat_last : is_flat_list r.last ≡ true
 
 abbrev pub AnswersListBranches : Reader → ℕ → Result (Branches (List Stmt)) Stop → Type 0
 AnswersListBranches reader at (Ok r) = FoundListBranches reader.room reader.tokens.now at r

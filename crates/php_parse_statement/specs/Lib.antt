@@ -1,8 +1,7 @@
-pub mod Walk
-pub mod RoleView
-pub mod Parts
-pub mod Answer
-pub mod NameAnswer
+pub mod Within
 pub mod ListAnswer
 pub mod FormAnswer
-pub mod HeadAnswer
+pub mod CaseAnswer
+pub mod TryAnswer
+pub mod Rows
+pub mod Exact

@@ -12,14 +12,15 @@ use Rattle.php_grammar.specs.statement.Role.{Behind, by_brace}
 use Rattle.php_grammar.specs.statement.Forms.{StatementList, of_block, OpenStatement, Around, StatementState, due_statement, done, due_in_list}
 use Rattle.php_grammar.specs.statement.Machine.{list_end}
 use Rattle.php_grammar.specs.statement.Depth.{is_body_at, statement_depth, depth_outside}
+use Rattle.php_flat.specs.Statements.{are_flat_statements}
 use Rattle.php_reader.specs.declared.reader.Reader.{Reader}
 use Rattle.php_reader.specs.declared.fail.Stop.{Stop}
 use Rattle.php_reader.specs.Seen.{rest}
-use Rattle.php_parse_statement.specs.declared.read.ReadStatement.{ReadStatement}
-use Rattle.php_parse_statement.specs.declared.read.Listed.{Listed}
-use Rattle.php_parse_statement.specs.RoleView.{ends_list}
-use Rattle.php_parse_statement.specs.Walk.{Leads}
-use Rattle.php_parse_statement.specs.Answer.{Fails, SpansStatement}
+use Rattle.php_parse_simple.specs.declared.read.ReadStatement.{ReadStatement}
+use Rattle.php_parse_simple.specs.declared.read.Listed.{Listed}
+use Rattle.php_parse_simple.specs.RoleView.{ends_list}
+use Rattle.php_parse_simple.specs.Walk.{Leads}
+use Rattle.php_parse_simple.specs.Answer.{Fails, SpansStatement}
 
 -- ---- lists
 
@@ -34,6 +35,7 @@ pub record StatementsSoFar (room : ℕ) (tokens : List Token) (at : ℕ) (xs : L
   pub sized : at + size_statements statements ≡ next
   pub reads : (list : StatementList) → Leads (list_measure list) room (λ o. due_in_list list no_statement o) (rest tokens at) (λ o. due_in_list list statements o) (rest tokens next)
   pub within : next ≤ length tokens
+  pub flat : are_flat_statements xs ≡ true
 
 -- The statements of a list were read, up to a token that ends one.
 pub record FoundStatements (room : ℕ) (tokens : List Token) (at : ℕ) (r : Listed Stmt) : Type 0 where
@@ -58,6 +60,7 @@ pub record FoundBraced (room : ℕ) (tokens : List Token) (at : ℕ) (r : Listed
   pub reads : (list : StatementList) (to : Statements Nothing → Around → StatementState) → IsBraced list to
       → Leads (list_measure list) room (λ o. due_in_list list no_statement o) (rest tokens at) (λ o. to statements o) (rest tokens r.next)
   pub within : r.next ≤ length tokens
+  pub flat : are_flat_statements r.items ≡ true
 
 abbrev pub AnswersBraced : Reader → ℕ → Result (Listed Stmt) Stop → Type 0
 AnswersBraced reader at (Ok r) = FoundBraced reader.room reader.tokens.now at r

@@ -5,19 +5,20 @@ ghost use Rattle.php_grammar.specs.expression.Role.{is_colon};
 ghost use Rattle.php_grammar.specs.statement.Laws.{head_behind};
 ghost use Rattle.php_grammar.specs.statement.Role.{at_if, statement_beginning};
 ghost use Rattle.php_reader.specs.Seen.{Shows, rest};
-ghost use Rattle.php_parse_statement.specs.Answer.{AnswersForm};
+ghost use Rattle.php_parse_simple.specs.Answer.{AnswersForm};
 ghost use Rattle.php_parse_statement.specs.FormAnswer.{AnswersBranches, AnswersClosed, AnswersElseIfLists, AnswersElseIfs, AnswersListBranches};
-ghost use Rattle.php_parse_statement.specs.RoleView.{ends_list};
-ghost use Rattle.php_parse_statement.specs.declared.role.After.TheVariants.{Other};
+ghost use Rattle.php_parse_simple.specs.RoleView.{ends_list};
+ghost use Rattle.php_parse_simple.specs.declared.role.After.TheVariants.{Other};
 
-use crate::build::{if_lists_statement, if_statement};
-use crate::heads::test;
 use crate::inner::ReadsInner;
-use crate::look::{sees, sees_after};
 use crate::parser::Parser;
-use crate::read::{Branches, Listed, ReadStatement};
-use crate::role::{After, Fixed};
+use crate::read::Branches;
 use php_ast::{ElseIf, Stmt};
+use php_parse_simple::build::{if_lists_statement, if_statement};
+use php_parse_simple::heads::test;
+use php_parse_simple::look::{sees, sees_after};
+use php_parse_simple::read::{Listed, ReadStatement};
+use php_parse_simple::role::{After, Fixed};
 use php_reader::Stop;
 use php_reader::look::spot;
 use sqlite_items::{Boxed, Items};
@@ -54,15 +55,16 @@ impl<'t, R: ReadsInner> Parser<'t, R> {
         let behind = first.next;
         let body = Boxed::new(self.reader.alloc, first.statement)?;
         let parts = self.elseifs(behind)?;
-        if !sees_after(self.reader.tokens, parts.next, After::Else) {
+        let word = parts.next;
+        if !sees_after(self.reader.tokens, word, After::Else) {
             return Ok(Branches {
                 body,
-                next: parts.next,
+                next: word,
                 parts: parts.items,
                 last: None,
             });
         }
-        let last = self.body(parts.next + 1)?;
+        let last = self.body(word + 1)?;
         Ok(Branches {
             body,
             parts: parts.items,

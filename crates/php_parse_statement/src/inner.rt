@@ -2,7 +2,7 @@
 
 ghost use Rattle.std.specs.Prelude.{◌≤◌, ◌<◌, length};
 
-use crate::read::ReadStatement;
+use php_parse_simple::read::ReadStatement;
 use php_reader::{Reader, Stop};
 use std::marker::Model;
 
@@ -12,7 +12,7 @@ pub(crate) trait ReadsInner {
     ghost use denote.Ref.{Bor};
     ghost use Rattle.php_reader.specs.declared.reader.Reader.{Reader};
     ghost use Rattle.php_reader.specs.declared.fail.Stop.{Stop};
-    ghost use Rattle.php_parse_statement.specs.declared.read.ReadStatement.{ReadStatement};
+    ghost use Rattle.php_parse_simple.specs.declared.read.ReadStatement.{ReadStatement};
 
     ghost allows: { Self → Bor Reader → ℕ → Type 0 };
 
@@ -50,7 +50,7 @@ impl<R: ReadsInner> Model for Inner<R> {
 
     ghost Value = { ℕ };
 
-    ghost use Rattle.php_parse_statement.specs.Answer.{Nests};
+    ghost use Rattle.php_parse_statement.specs.Within.{Nests};
 
     ghost view = { λ r. r.bound };
 
@@ -59,7 +59,8 @@ impl<R: ReadsInner> Model for Inner<R> {
 
 impl<R: ReadsInner> Inner<R> {
     ghost use Rattle.std.specs.Prelude.{◌≡◌};
-    ghost use Rattle.php_parse_statement.specs.Answer.{AnswersStatement, Nests};
+    ghost use Rattle.php_parse_simple.specs.Answer.{AnswersStatement};
+    ghost use Rattle.php_parse_statement.specs.Within.{Nests};
 
     pub(crate) fn new(bound: usize, read: R) -> Self
         requires { Nests bound (R.allows read) (R.gives read) }

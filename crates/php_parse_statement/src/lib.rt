@@ -2,18 +2,20 @@
 #![tactic(auto)]
 
 mod blocks;
-mod build;
 mod conditions;
-mod expression;
-mod heads;
 mod inner;
-mod look;
 mod loops;
-mod names;
+mod parse;
 mod parser;
 mod read;
-mod role;
-mod simple;
-mod values;
+mod rows;
+mod statement;
+mod switches;
+mod tries;
 
-pub use read::ReadStatement;
+pub use parse::parse_statement;
+pub use php_parse_simple::read::ReadStatement;
+pub use php_reader::ParseFail;
+pub use read::ReadBraced;
+pub use rows::read_braced;
+pub use statement::read_statement;

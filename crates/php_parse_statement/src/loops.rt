@@ -3,18 +3,21 @@
 ghost use Rattle.std.specs.Prelude.{◌≡◌, ◌≢◌, ◌≤◌, length};
 ghost use Rattle.php_grammar.specs.statement.Role.{at_do, at_for, at_foreach, at_while, statement_beginning};
 ghost use Rattle.php_reader.specs.Seen.{Shows};
-ghost use Rattle.php_parse_statement.specs.Answer.{AnswersForm};
+ghost use Rattle.php_parse_simple.specs.Answer.{AnswersForm};
 ghost use Rattle.php_parse_statement.specs.FormAnswer.{AnswersLoopBody};
-ghost use Rattle.php_parse_statement.specs.declared.role.After.TheVariants.{Other};
+ghost use Rattle.php_parse_simple.specs.declared.role.After.TheVariants.{Other};
 
-use crate::build::{do_while_statement, for_statement, foreach_statement, while_statement};
-use crate::heads::{for_head, foreach_head, test};
 use crate::inner::ReadsInner;
-use crate::look::{sees, sees_after};
 use crate::parser::Parser;
-use crate::read::{Entry, ReadStatement, forget};
-use crate::role::{After, Fixed};
+use crate::read::forget;
 use php_ast::{Body, Stmt};
+use php_parse_simple::build::{
+    do_while_statement, for_statement, foreach_statement, while_statement,
+};
+use php_parse_simple::heads::{for_head, foreach_head, test};
+use php_parse_simple::look::{sees, sees_after};
+use php_parse_simple::read::{Entry, ReadStatement};
+use php_parse_simple::role::{After, Fixed};
 use php_reader::Stop;
 use php_reader::look::spot;
 use sqlite_items::Boxed;

@@ -3,7 +3,7 @@
 ghost use Rattle.std.specs.Prelude.{◌≤◌, length};
 
 use crate::inner::{Inner, ReadsInner};
-use crate::read::ReadStatement;
+use php_parse_simple::read::ReadStatement;
 use php_reader::{Reader, Stop};
 
 /// Reads statements. The statements inside them are read by `inner`.
@@ -16,7 +16,7 @@ pub(crate) struct Parser<'t, R: ReadsInner> {
 }
 
 impl<'t, R: ReadsInner> Parser<'t, R> {
-    ghost use Rattle.php_parse_statement.specs.Answer.{AnswersInside};
+    ghost use Rattle.php_parse_statement.specs.Within.{AnswersInside};
 
     /// The statement that begins at a place, one level deeper.
     pub(crate) fn deeper(&self, at: usize) -> Result<ReadStatement, Stop>

@@ -1,41 +1,12 @@
-// What the parts of the parser give.
+// What the parts of the parser give that read forms with statements inside.
 
-ghost use Rattle.std.specs.Prelude.{◌≡◌};
-ghost use Rattle.php_reader.specs.declared.fail.Stop.TheVariants.{Syntax};
+ghost use Rattle.std.specs.Prelude.{◌≡◌, true};
+ghost use Rattle.php_flat.specs.Statements.{are_flat_statements};
 
-use php_ast::{ElseIf, Expr, Stmt, Target};
-use php_parse_body::Read;
+use php_ast::{Case, Catch, ElseIf, Stmt};
+use php_parse_simple::read::Listed;
 use php_reader::Stop;
 use sqlite_items::Items;
-
-/// A statement, and the place behind it.
-#[derive(Drop)]
-pub struct ReadStatement {
-    pub statement: Stmt,
-    pub next: usize,
-}
-
-/// What was listed, and the place behind it.
-#[derive(Drop)]
-pub(crate) struct Listed<T> {
-    pub(crate) items: Items<T>,
-    pub(crate) next: usize,
-}
-
-/// One thing, and the place behind it.
-#[derive(Drop)]
-pub(crate) struct Entry<T> {
-    pub(crate) item: T,
-    pub(crate) next: usize,
-}
-
-/// What takes the key, if anything, and the value at each turn of a `foreach`; and the place behind them.
-#[derive(Drop)]
-pub(crate) struct Turn {
-    pub(crate) key: Option<Target>,
-    pub(crate) value: Target,
-    pub(crate) next: usize,
-}
 
 /// The bodies of an `if`: the first one, those of its `elseif` parts, that of its `else`; and the place behind them.
 #[derive(Drop)]
@@ -46,42 +17,31 @@ pub(crate) struct Branches<B> {
     pub(crate) next: usize,
 }
 
-/// The value of a token.
-#[derive(Clone, Copy)]
-pub(crate) struct Number {
-    pub(crate) value: i64,
+/// The statements between the braces of a function, and the place behind the `}`. They are flat.
+#[derive(Drop)]
+pub struct ReadBraced {
+    pub statements: Items<Stmt>,
+    pub next: usize,
+    pub ghost flat: { are_flat_statements statements ≡ true },
 }
 
-/// An expression is not followed by what must stand behind it.
-pub(crate) fn unclosed(read: Read) -> Stop
-    ensures { result ≡ Syntax read.next }
-{
-    Stop::Syntax(read.next)
+/// The `catch` parts of a `try` and the statements of its `finally`, if it has one; and the place behind them.
+#[derive(Drop)]
+pub(crate) struct Handlers {
+    pub(crate) catches: Items<Catch<Stmt>>,
+    pub(crate) last: Option<Items<Stmt>>,
+    pub(crate) next: usize,
 }
 
-/// Lets go of what was read before a failure.
-pub(crate) fn discard(_values: Items<Expr>, stop: Stop) -> Stop
-    ensures { result ≡ stop }
-{
-    stop
-}
-
-/// Likewise of statements.
+/// Lets go of statements that were read before a failure.
 pub(crate) fn forget(_statements: Items<Stmt>, stop: Stop) -> Stop
     ensures { result ≡ stop }
 {
     stop
 }
 
-/// A target is not followed by what must stand behind it.
-pub(crate) fn unended(read: Entry<Target>) -> Stop
-    ensures { result ≡ Syntax read.next }
-{
-    Stop::Syntax(read.next)
-}
-
-/// Lets go of a target that was read before a failure.
-pub(crate) fn let_go(_read: Entry<Target>, stop: Stop) -> Stop
+/// Likewise of cases.
+pub(crate) fn drop_cases(_cases: Listed<Case<Stmt>>, stop: Stop) -> Stop
     ensures { result ≡ stop }
 {
     stop

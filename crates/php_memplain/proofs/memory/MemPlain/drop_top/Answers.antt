@@ -31,6 +31,6 @@ returns-clause-effect c =
     let i = item_seen c.pop-item.result in
     let t = c.fall.new.cells in
     let taken : IsCountedWith c.pop-item.new.cells (stores_of_item i) (handles_of_item i) = subst (λ (x : Item). IsCountedWith c.pop-item.new.cells (stores_of_item x) (handles_of_item x)) (sym c.pop-item.ensures.top) (popped_counted s.cells c.pop-item.new.cells b c.pop-item.ensures.stores c.pop-item.ensures.objects c.requires.1.counted c.pop-item.ensures.seen) in
-    does s (record { cells = t }) (op.drop_top b)
+    does s (record { cells = t }) (op.drop_top b) (able s (op.drop_top b) c.requires)
     (fallen_counted c.pop-item.new.cells t b c.fall.ensures.stores c.fall.ensures.objects i taken c.fall.ensures.seen)
     (c.fall.ensures.seen ∙ ap (λ (n : Mem). let_fall n b i) c.pop-item.ensures.seen ∙ ap (let_fall (popped m b) b) c.pop-item.ensures.top)

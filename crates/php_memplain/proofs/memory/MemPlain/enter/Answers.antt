@@ -15,7 +15,8 @@ returns-clause-ok c = λ m means.
     let f = c.in_ok-block.block in
     let free = c.in-Ok.ensures.was_vacant in
     let u = c.in-Ok.ensures.updates in
-    let is = c.in_ok-block.ensures in (
-      Can-alike (op.enter k n) (memory_seen s) m means.alike (free_seen s t k n f free u is refl refl refl),
-      meant_after c.args.self.now (record { cells = t }) (op.enter k n) (entered_counted s t k n f free u is refl refl refl means.counted) (entered_same s t k n f free u is refl refl refl) m means,
+    let is = c.in_ok-block.ensures in
+    let can = free_seen s t k n f free u is refl refl refl in (
+      Can-alike (op.enter k n) (memory_seen s) m means.alike can,
+      meant_after c.args.self.now (record { cells = t }) (op.enter k n) can (entered_counted s t k n f free u is refl refl refl means.counted) (entered_same s t k n f free u is refl refl refl) m means,
     )

@@ -20,6 +20,6 @@ returns-clause-effect c =
     let t = record s.cells { blocks = c.remove-left.new.self } in
     let seen = ap (λ xs. record (memory_seen s.cells) { blocks = map (option_map scope_seen) xs }) c.remove-left.ensures.slots
     ∙ ap (λ xs. record (memory_seen s.cells) { blocks = xs }) (set_seen scope_seen s.cells.blocks.slots b c.remove-left.result None c.remove-left.ensures.value) in
-    does s (record { cells = t }) (op.leave b)
+    does s (record { cells = t }) (op.leave b) (able s (op.leave b) c.requires)
     (left_counted s.cells b t c.requires.1.counted (able s (op.leave b) c.requires) refl refl seen)
     seen

@@ -50,4 +50,5 @@ returns-clause-fresh c =
       counted = blank_counted s c.new.ensures.empty c.new-2.ensures.items c.new-3.ensures.empty c.new-4.ensures.items;
       closed = subst IsClosed (sym seen) (fresh-sound blank blank_fresh).closed;
       alike = subst (λ n. Alike n fresh) (sym seen) (Alike-sym fresh blank (fresh-alike blank blank_fresh));
+      sound = fresh-sound fresh (record { stores = λ s. refl; objects = λ h. refl; blocks = λ b. refl; statics = λ i. refl; next_object = refl });
     }

@@ -38,6 +38,6 @@ returns-clause-effect c =
     let i = item_seen c.pop-item.result in
     let t = c.push.new.cells in
     let taken : IsCountedWith c.pop-item.new.cells (stores_of_item i) (handles_of_item i) = subst (λ (x : Item). IsCountedWith c.pop-item.new.cells (stores_of_item x) (handles_of_item x)) (sym c.pop-item.ensures.top) (popped_counted s.cells c.pop-item.new.cells from c.pop-item.ensures.stores c.pop-item.ensures.objects c.requires.1.counted c.pop-item.ensures.seen) in
-    does s (record { cells = t }) (op.pass from to)
+    does s (record { cells = t }) (op.pass from to) (able s (op.pass from to) c.requires)
     (pushed_counted c.pop-item.new.cells t to c.push.ensures.stores c.push.ensures.objects i taken c.push.ensures.seen)
     (c.push.ensures.seen ∙ ap (λ (n : Mem). pushed n to i) c.pop-item.ensures.seen ∙ ap (pushed (popped m from) to) c.pop-item.ensures.top)

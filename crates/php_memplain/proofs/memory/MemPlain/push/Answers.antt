@@ -20,6 +20,6 @@ returns-clause-effect c =
     let b = c.args.block.0 in
     let v = c.args.value in
     let seen = c.push.ensures.seen ∙ ap (λ x. pushed (memory_seen s.cells) b (value x)) c.content_of-content.ensures in
-    does s (record { cells = c.push.new.cells }) (op.push b v)
+    does s (record { cells = c.push.new.cells }) (op.push b v) (able s (op.push b v) c.requires)
     (pushed_counted s.cells c.push.new.cells b c.push.ensures.stores c.push.ensures.objects (value (content_of_scalar v)) (still_counted s.cells _ _ (scalar_stores v) (scalar_handles v) c.requires.1.counted) seen)
     seen

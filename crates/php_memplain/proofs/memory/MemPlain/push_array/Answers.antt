@@ -20,6 +20,6 @@ returns-clause-ok c =
     let s = c.args.self.now in
     let b = c.args.block.0 in
     let seen = c.push.ensures.seen ∙ ap (λ t. pushed (memory_seen s.cells) b (value (array t))) c.new-2.ensures in
-    does s (record { cells = c.push.new.cells }) (op.push_array b)
+    does s (record { cells = c.push.new.cells }) (op.push_array b) (able s (op.push_array b) c.requires)
     (pushed_counted s.cells c.push.new.cells b c.push.ensures.stores c.push.ensures.objects (value (array no_entries)) c.requires.1.counted seen)
     seen

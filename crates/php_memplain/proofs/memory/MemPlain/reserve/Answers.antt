@@ -22,7 +22,7 @@ returns-clause-ok c =
     let t = record s.cells { blocks = with_value s.cells.blocks b c.reserve_room.new.block } in
     let f = scope_of (memory_seen s.cells) b in
     let seen = scope_changed s.cells b c.index_mut.result.now c.index_mut.ensures.value c.reserve_room.new.block (λ (x : Scope). record x { room = x.room + n }) c.in-Ok.ensures.ok in
-    does s (record { cells = t }) (op.reserve b n) (rescoped_counted s.cells t b (record f { room = f.room + n }) c.requires.1.counted refl refl seen (λ k. refl) (λ h. refl)) seen
+    does s (record { cells = t }) (op.reserve b n) (able s (op.reserve b n) c.requires) (rescoped_counted s.cells t b (record f { room = f.room + n }) c.requires.1.counted refl refl seen (λ k. refl) (λ h. refl)) seen
 
 pub returns-in_default-clause-no_memory : goal.returns-in_default-clause-no_memory
 returns-in_default-clause-no_memory c =

@@ -33,7 +33,7 @@ returns-clause-effect c =
     let there = block_there s.cells b f e in
     let seen = scope_changed s.cells b f e c.shed_variable.new.block (λ (x : Scope). shed_scope x.variables x) c.shed_variable.ensures.seen in
     let answer = c.shed_variable.ensures.answer ∙ ap (λ (x : Scope). has_variable x.variables) (sym (scope_there s.cells b f e)) in
-    answers s (record { cells = t }) (op.shed b)
+    answers s (record { cells = t }) (op.shed b) (able s (op.shed b) c.requires)
     (rescoped_counted s.cells t b (shed_scope vs (scope_of m b)) c.requires.1.counted refl refl seen (shed_names m b (scope_seen f) there vs refl) (shed_handles m b (scope_seen f) there vs))
     c.shed_variable.result
     (shed_is m b (scope_seen f) there vs refl ∙ ap (λ n. (n, has_variable vs)) (sym seen) ∙ ap (λ r. (memory_seen t, r)) (sym answer))

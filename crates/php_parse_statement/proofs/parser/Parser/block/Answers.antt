@@ -2,8 +2,8 @@ use Rattle.std.proofs.Common.{◌+◌, arith}
 use Rattle.std.proofs.lemmas.Result.{err_from_is_err_and}
 use Rattle.php_ast.specs.statement.Tree.{block, no_statement}
 use Rattle.php_grammar.specs.statement.Forms.{of_block, due_in_list, done}
-use Rattle.php_parse_statement.proofs.Fails.{later}
-use Rattle.php_parse_statement.proofs.Moves.{leads}
+use Rattle.php_parse_simple.proofs.Fails.{later}
+use Rattle.php_parse_simple.proofs.Moves.{leads}
 use Rattle.php_parse_statement.proofs.Lists.{block_braced, block_opens, block_spans}
 use Rattle.php_parse_statement.proofs.parser.Parser.block.Goals as goal
 
@@ -20,8 +20,11 @@ returns g c =
     let r = c.in_ok-list.ensures in
     record {
       form = block tt r.statements;
-      spans = block_spans c.args.self.now.reader.tokens.now _ _ _ r.statements c.args.at _ c.block_statement.ensures c.spot.ensures r.shown r.sized;
+      spans = block_spans c.args.self.now.reader.tokens.now _ _ _ r.statements c.args.at _ c.block_statement.ensures.shown c.spot.ensures r.shown r.sized;
       reads = leads (λ o. due_in_list of_block no_statement o) (block_opens h.token h.stands.is h.role_is c.args.self.now.deep) (r.reads of_block (λ ss o. done (block tt ss) o) block_braced);
       ahead = omega (arith, r.sized);
       within = r.within;
     }
+
+pub block_statement-requires : goal.block_statement-requires
+block_statement-requires g c = c.in_ok-list.ensures.flat

@@ -1,7 +1,7 @@
 use Rattle.std.proofs.Common.{refl, arith}
 use Rattle.std.proofs.lemmas.Result.{err_from_is_err_and}
 use Rattle.php_grammar.specs.statement.Forms.{due_in_list}
-use Rattle.php_parse_statement.proofs.Moves.{leads, leads_halts}
+use Rattle.php_parse_simple.proofs.Moves.{leads, leads_halts}
 use Rattle.php_parse_statement.proofs.Lists.{list_unended, brace_closes, brace_sinks}
 use Rattle.php_parse_statement.proofs.parser.Parser.braced.Goals as goal
 
@@ -42,4 +42,5 @@ returns g c =
       sized = omega (arith, v.sized);
       reads = λ list to b. leads (λ o. due_in_list list v.statements o) (v.reads list) (brace_closes list to v.statements e.token b e.stands.is e.role_is (omega (arith, c.args.self.now.deep, c.if-self-eq1.false)));
       within = omega (arith, e.stands.within);
+      flat = v.flat;
     }

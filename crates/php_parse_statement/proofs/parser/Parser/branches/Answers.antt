@@ -3,9 +3,10 @@ use Rattle.std.proofs.lemmas.Result.{err_from_is_err_and}
 use Rattle.php_ast.specs.statement.Tree.{no_elseif}
 use Rattle.php_ast.specs.statement.View.{statement_view}
 use Rattle.php_grammar.specs.statement.Forms.{if_open, else_open, due_statement, done}
+use Rattle.php_flat.specs.Statements.{is_flat_statement}
 use Rattle.php_parse_statement.specs.FormAnswer.{behind_parts}
-use Rattle.php_parse_statement.proofs.Fails.{later}
-use Rattle.php_parse_statement.proofs.Moves.{leads}
+use Rattle.php_parse_simple.proofs.Fails.{later}
+use Rattle.php_parse_simple.proofs.Moves.{leads}
 use Rattle.php_parse_statement.proofs.Looping.{parts_end, parts_else, else_ends, parts_shift, last_shown}
 use Rattle.php_parse_statement.proofs.parser.Parser.branches.Goals as goal
 
@@ -36,6 +37,9 @@ returns-then-not-sees_after g c =
       reads = λ e. leads (λ o. behind_parts e b.form no_elseif o) (b.reads (if_open e) refl) (leads (λ o. behind_parts e b.form v.parts o) (v.reads e b.form) (parts_end e b.form v.parts (c.if-not-sees_after.ensures.no refl) p.over));
       ahead = omega (arith, b.ahead, v.sized);
       within = v.within;
+      flat_body = ap is_flat_statement c.in_ok-body.ensures ∙ c.in_ok-first.first.flat;
+      flat_parts = v.flat;
+      flat_last = refl;
     }
 
 pub returns-in_err-last : goal.returns-in_err-last
@@ -69,4 +73,7 @@ returns g c =
           (leads (λ o. done l.form (else_open e b.form v.parts ∷ o)) (l.reads (else_open e b.form v.parts) refl) (else_ends e b.form v.parts l.form));
       ahead = omega (arith, b.ahead, v.sized, l.ahead);
       within = l.within;
+      flat_body = ap is_flat_statement c.body-2.view_is ∙ ap is_flat_statement c.in_ok-body.ensures ∙ c.in_ok-first.first.flat;
+      flat_parts = v.flat;
+      flat_last = ap is_flat_statement c.in_ok-new.ensures ∙ c.in_ok-last.last.flat;
     }

@@ -2,8 +2,8 @@ use Rattle.std.proofs.Common.{[], refl, arith}
 use Rattle.php_grammar.specs.statement.Role.{fixed_semicolon}
 use Rattle.php_grammar.specs.statement.Forms.{done}
 use Rattle.php_grammar.specs.statement.Machine.{before_semicolon}
-use Rattle.php_parse_statement.specs.RoleView.{after_view}
-use Rattle.php_parse_statement.proofs.Moves.{leads, leads_halts, due_halts, due_outside}
+use Rattle.php_parse_simple.specs.RoleView.{after_view}
+use Rattle.php_parse_simple.proofs.Moves.{leads, leads_halts, due_halts, due_outside}
 use Rattle.php_parse_statement.proofs.Lists.{list_unended, list_outside}
 use Rattle.php_parse_statement.proofs.parser.Parser.closed.Goals as goal
 

@@ -2,12 +2,13 @@ use Rattle.std.proofs.Common.{◌+◌, ◌∙◌, [], ◌∷◌, refl, ap, arith
 use Rattle.php_ast.specs.statement.View.{statement_view}
 use Rattle.std.proofs.lemmas.Result.{err_from_is_err_and}
 use Rattle.php_ast.specs.statement.Tree.{do_while}
+use Rattle.php_flat.specs.Statements.{is_flat_statement}
 use Rattle.php_grammar.specs.statement.Role.{at_do, fixed_semicolon}
 use Rattle.php_grammar.specs.statement.Forms.{do_head, do_open, due_statement, done}
 use Rattle.php_grammar.specs.statement.Machine.{headed, before_semicolon}
-use Rattle.php_parse_statement.proofs.Fails.{later}
-use Rattle.php_parse_statement.proofs.Moves.{leads, leads_halts, due_halts, due_outside}
-use Rattle.php_parse_statement.proofs.Plain.{begins}
+use Rattle.php_parse_simple.proofs.Fails.{later}
+use Rattle.php_parse_simple.proofs.Moves.{leads, leads_halts, due_halts, due_outside}
+use Rattle.php_parse_simple.proofs.Plain.{begins}
 use Rattle.php_parse_statement.proofs.Looping.{do_halts, do_on, do_spans}
 use Rattle.php_parse_statement.proofs.parser.Parser.do_while.Goals as goal
 
@@ -66,7 +67,7 @@ returns g c =
     let m = c.if-not-sees.ensures in
     record {
       form = do_while tt r.form e.form;
-      spans = do_spans c.args.self.now.reader.tokens.now _ _ _ _ r.form e.form c.args.at _ _ c.do_while_statement.ensures c.spot.ensures
+      spans = do_spans c.args.self.now.reader.tokens.now _ _ _ _ r.form e.form c.args.at _ _ c.do_while_statement.ensures.shown c.spot.ensures
           (ap statement_view c.in_ok-inside.ensures ∙ r.spans.shown) r.spans.sized e.shown e.sized;
       reads = leads (λ o. before_semicolon (do_while tt r.form e.form) o)
           (leads (λ o. headed (do_head r.form) o)
@@ -77,3 +78,9 @@ returns g c =
       ahead = omega (arith, r.ahead, e.ahead);
       within = omega (arith, m.stands.within);
     }
+
+pub do_while_statement-requires-clause-body : goal.do_while_statement-requires-clause-body
+do_while_statement-requires-clause-body g c = ap is_flat_statement c.in_ok-inside.ensures ∙ c.in_ok-body.body.flat
+
+pub do_while_statement-requires-clause-test : goal.do_while_statement-requires-clause-test
+do_while_statement-requires-clause-test g c = c.in_ok-test.ensures.flat

@@ -4,11 +4,14 @@ use Rattle.php_ast.specs.statement.Tree.{no_statement, no_elseif_list, and_elsei
 use Rattle.php_ast.specs.statement.View.{elseif_lists_from}
 use Rattle.php_grammar.specs.statement.Role.{by_elseif, fixed_colon}
 use Rattle.php_grammar.specs.statement.Forms.{elseif_list_head, of_elseif, due, due_in_list}
+use Rattle.std.specs.List.{list_all}
+use Rattle.php_flat.specs.Statements.{is_flat_elseif_list}
+use Rattle.php_parse_statement.proofs.Flats.{elseif_lists_flat}
 use Rattle.php_grammar.specs.statement.Machine.{headed}
 use Rattle.php_parse_statement.specs.FormAnswer.{behind_lists, last_list, last_statements}
-use Rattle.php_parse_statement.specs.Parts.{elseif_list_parts}
-use Rattle.php_parse_statement.proofs.Fails.{later}
-use Rattle.php_parse_statement.proofs.Moves.{leads, leads_halts, due_halts, due_outside}
+use Rattle.php_parse_simple.specs.Parts.{elseif_list_parts}
+use Rattle.php_parse_simple.proofs.Fails.{later}
+use Rattle.php_parse_simple.proofs.Moves.{leads, leads_halts, due_halts, due_outside}
 use Rattle.php_parse_statement.proofs.Lists.{list_outside}
 use Rattle.php_parse_statement.proofs.Listing.{last_end, elseif_lists_more}
 use Rattle.php_parse_statement.proofs.parser.Parser.elseif_lists.Goals as goal
@@ -21,6 +24,7 @@ loop-items-init g c = record {
   reads = λ e body. record { same = λ n o is. refl };
   ended = c.requires.ended;
   within = c.requires.within;
+  flat = ap (list_all is_flat_elseif_list) c.new-items.ensures;
 }
 
 pub returns-then-not-sees_after : goal.returns-then-not-sees_after
@@ -90,6 +94,7 @@ loop-items-preserved g c =
           (l.reads (of_elseif e body v.parts t.form));
       ended = f.ended;
       within = l.within;
+      flat = elseif_lists_flat c.loop-items.items _ _ c.in_ok-push.ensures.ok v.flat t.flat l.flat;
     }
 
 pub loop-items-smaller : goal.loop-items-smaller

@@ -3,11 +3,14 @@ use Rattle.std.proofs.lemmas.Result.{err_from_is_err_and}
 use Rattle.php_ast.specs.statement.Tree.{no_elseif, and_elseif}
 use Rattle.php_ast.specs.statement.View.{elseifs_from, statement_view}
 use Rattle.php_grammar.specs.statement.Forms.{elseif_head, elseif_open, due_statement}
+use Rattle.std.specs.List.{list_all}
+use Rattle.php_flat.specs.Statements.{is_flat_statement, is_flat_elseif}
+use Rattle.php_parse_statement.proofs.Flats.{elseifs_flat}
 use Rattle.php_grammar.specs.statement.Machine.{headed}
 use Rattle.php_parse_statement.specs.FormAnswer.{behind_parts}
-use Rattle.php_parse_statement.specs.Parts.{elseif_parts}
-use Rattle.php_parse_statement.proofs.Fails.{later}
-use Rattle.php_parse_statement.proofs.Moves.{leads}
+use Rattle.php_parse_simple.specs.Parts.{elseif_parts}
+use Rattle.php_parse_simple.proofs.Fails.{later}
+use Rattle.php_parse_simple.proofs.Moves.{leads}
 use Rattle.php_parse_statement.proofs.Looping.{parts_elseif, elseifs_more}
 use Rattle.php_parse_statement.proofs.parser.Parser.elseifs.Goals as goal
 
@@ -18,6 +21,7 @@ loop-items-init g c = record {
   sized = omega arith;
   reads = λ e body. record { same = λ n o is. refl };
   within = c.requires;
+  flat = ap (list_all is_flat_elseif) c.new-items.ensures;
 }
 
 pub returns-then-not-sees_after : goal.returns-then-not-sees_after
@@ -60,6 +64,7 @@ loop-items-preserved g c =
           (t.reads (elseif_head e body v.parts)))
           (r.reads (elseif_open e body v.parts t.form) refl);
       within = r.within;
+      flat = elseifs_flat c.loop-items.items _ _ c.in_ok-push.ensures.ok v.flat t.flat (ap is_flat_statement c.in_ok-body.ensures ∙ c.in_ok-read.read.flat);
     }
 
 pub loop-items-smaller : goal.loop-items-smaller

@@ -3,10 +3,10 @@ use Rattle.std.proofs.lemmas.Result.{err_from_is_err_and}
 use Rattle.php_ast.specs.statement.Tree.{for}
 use Rattle.php_grammar.specs.statement.Role.{at_for, left_paren}
 use Rattle.php_grammar.specs.statement.Forms.{of_starts, due, due_value, for_loop, past_loop}
-use Rattle.php_parse_statement.proofs.Fails.{later}
-use Rattle.php_parse_statement.proofs.Moves.{leads}
-use Rattle.php_parse_statement.proofs.Plain.{begins}
-use Rattle.php_parse_statement.proofs.Targets.{for_spans}
+use Rattle.php_parse_simple.proofs.Fails.{later}
+use Rattle.php_parse_simple.proofs.Moves.{leads}
+use Rattle.php_parse_simple.proofs.Plain.{begins}
+use Rattle.php_parse_simple.proofs.Targets.{for_spans}
 use Rattle.php_parse_statement.proofs.parser.Parser.for_loop.Goals as goal
 
 pub returns-in_err-head : goal.returns-in_err-head
@@ -32,10 +32,16 @@ returns g c =
     let r = c.in_ok-body.ensures in
     record {
       form = for tt f.starts f.tests f.steps r.body;
-      spans = for_spans c.args.self.now.reader.tokens.now _ _ _ _ _ _ f.starts f.tests f.steps r.body c.args.at _ _ c.for_statement.ensures c.spot.ensures f.starts_shown f.tests_shown f.steps_shown f.sized r.shown r.sized;
+      spans = for_spans c.args.self.now.reader.tokens.now _ _ _ _ _ _ f.starts f.tests f.steps r.body c.args.at _ _ c.for_statement.ensures.shown c.spot.ensures f.starts_shown f.tests_shown f.steps_shown f.sized r.shown r.sized;
       reads = leads (λ o. past_loop (for_loop f.starts f.tests f.steps) o)
           (leads (λ o. due (left_paren ∷ []) (due_value of_starts o)) (begins at_for h.token h.stands.is h.role_is (λ o. refl) (λ o. refl) c.args.self.now.deep) f.reads)
           (r.reads (for_loop f.starts f.tests f.steps) refl);
       ahead = omega (arith, f.sized, r.ahead);
       within = r.within;
     }
+
+pub for_statement-requires-clause-head : goal.for_statement-requires-clause-head
+for_statement-requires-clause-head g c = c.in_ok-head.ensures.flat
+
+pub for_statement-requires-clause-body : goal.for_statement-requires-clause-body
+for_statement-requires-clause-body g c = c.in_ok-body.ensures.flat

@@ -4,8 +4,8 @@ use Rattle.php_ast.specs.statement.Tree.{if_lists, if_else_lists, no_statement, 
 use Rattle.php_grammar.specs.statement.Role.{by_else, by_endif, fixed_colon}
 use Rattle.php_grammar.specs.statement.Forms.{of_if, of_else, due, due_in_list}
 use Rattle.php_parse_statement.specs.FormAnswer.{behind_lists, last_list, last_statements}
-use Rattle.php_parse_statement.proofs.Fails.{later}
-use Rattle.php_parse_statement.proofs.Moves.{leads, leads_halts, due_halts, due_outside}
+use Rattle.php_parse_simple.proofs.Fails.{later}
+use Rattle.php_parse_simple.proofs.Moves.{leads, leads_halts, due_halts, due_outside}
 use Rattle.php_parse_statement.proofs.Lists.{list_outside}
 use Rattle.php_parse_statement.proofs.Listing.{if_colon, last_end, lists_none, else_none, parts_shift, list_shift}
 use Rattle.php_parse_statement.proofs.parser.Parser.list_branches.Goals as goal
@@ -63,6 +63,9 @@ returns-then-not-sees_after g c =
           (v.reads e b.statements))
           (n.reads (last_list e b.statements v.parts) (last_statements b.statements v.parts) (if_lists tt e b.statements v.parts) (λ o. last_end e b.statements v.parts o by_endif) refl);
       within = n.within;
+      flat_body = b.flat;
+      flat_parts = v.flat;
+      flat_last = refl;
     }
 
 pub returns-then-not-sees : goal.returns-then-not-sees
@@ -165,4 +168,7 @@ returns g c =
           (l.reads (of_else e b.statements v.parts)))
           (n.reads (of_else e b.statements v.parts) l.statements (if_else_lists tt e b.statements v.parts l.statements) (λ o. refl) refl);
       within = n.within;
+      flat_body = b.flat;
+      flat_parts = v.flat;
+      flat_last = l.flat;
     }

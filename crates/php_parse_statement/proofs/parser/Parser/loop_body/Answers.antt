@@ -2,12 +2,13 @@ use Rattle.std.proofs.Common.{◌+◌, ◌∙◌, [], ◌∷◌, refl, ap, arith
 use Rattle.php_ast.specs.statement.View.{statement_view}
 use Rattle.std.proofs.lemmas.Result.{err_from_is_err_and}
 use Rattle.php_ast.specs.statement.Tree.{no_statement, single, list_behind_colon}
+use Rattle.php_flat.specs.Statements.{is_flat_statement}
 use Rattle.php_grammar.specs.statement.Role.{fixed_semicolon}
 use Rattle.php_grammar.specs.statement.Forms.{of_loop, loop_open, due_in_list, due_statement, done, looped}
 use Rattle.php_grammar.specs.statement.Machine.{before_semicolon}
-use Rattle.php_parse_statement.specs.RoleView.{after_view}
-use Rattle.php_parse_statement.proofs.Fails.{later}
-use Rattle.php_parse_statement.proofs.Moves.{leads, leads_halts, due_halts, due_outside}
+use Rattle.php_parse_simple.specs.RoleView.{after_view}
+use Rattle.php_parse_simple.proofs.Fails.{later}
+use Rattle.php_parse_simple.proofs.Moves.{leads, leads_halts, due_halts, due_outside}
 use Rattle.php_parse_statement.proofs.Lists.{list_unended, list_outside}
 use Rattle.php_parse_statement.proofs.Looping.{loop_enters, loop_colon, loop_ends, loop_word, loop_other, end_outside}
 use Rattle.php_parse_statement.proofs.parser.Parser.loop_body.Goals as goal
@@ -73,6 +74,7 @@ returns g c =
           (due_outside fixed_semicolon [] (λ o. done (looped loop (list_behind_colon v.statements)) o) m.token m.stands.is m.role_is (λ o. refl) (λ d. refl) c.args.self.now.deep);
       ahead = omega (arith, v.sized);
       within = omega (arith, m.stands.within);
+      flat = v.flat;
     }
 
 pub returns-then-not-sees : goal.returns-then-not-sees
@@ -85,4 +87,5 @@ returns-then-not-sees g c =
       reads = λ loop h. leads (λ o. due_statement (loop_open loop ∷ o)) (loop_enters loop c.if-not-sees.ensures) (leads (λ o. done r.form (loop_open loop ∷ o)) (r.reads (loop_open loop) refl) (loop_ends loop r.form));
       ahead = r.ahead;
       within = r.within;
+      flat = ap is_flat_statement c.in_ok-new.ensures ∙ c.in_ok-read.read.flat;
     }

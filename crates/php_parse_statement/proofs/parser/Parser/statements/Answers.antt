@@ -2,9 +2,11 @@ use Rattle.std.proofs.Common.{refl, sym, ap, arith}
 use Rattle.std.proofs.lemmas.Result.{err_from_is_err_and}
 use Rattle.php_ast.specs.statement.Tree.{no_statement, and_statement}
 use Rattle.php_ast.specs.statement.View.{statements_view}
+use Rattle.php_build.proofs.Flats.{all_push}
+use Rattle.php_flat.specs.Statements.{is_flat_statement, are_flat_statements}
 use Rattle.php_grammar.specs.statement.Forms.{due_in_list}
-use Rattle.php_parse_statement.proofs.Fails.{later}
-use Rattle.php_parse_statement.proofs.Moves.{leads}
+use Rattle.php_parse_simple.proofs.Fails.{later}
+use Rattle.php_parse_simple.proofs.Moves.{leads}
 use Rattle.php_parse_statement.proofs.Lists.{one_more, one_failed, statements_more}
 use Rattle.php_parse_statement.proofs.parser.Parser.statements.Goals as goal
 
@@ -15,6 +17,7 @@ loop-items-init g c = record {
   sized = omega arith;
   reads = λ list. record { same = λ n o is. refl };
   within = c.requires;
+  flat = ap are_flat_statements c.new-items.ensures;
 }
 
 pub returns-then-list_ends : goal.returns-then-list_ends
@@ -37,6 +40,7 @@ loop-items-preserved g c =
       sized = omega (arith, v.sized, r.spans.sized);
       reads = λ list. leads (λ o. due_in_list list v.statements o) (v.reads list) (one_more list v.statements r.form c.args.self.now.deep (sym c.if-list_ends.ensures) r.reads);
       within = r.within;
+      flat = all_push (λ b. b) is_flat_statement c.loop-items.items _ _ c.in_ok-push.ensures.ok v.flat c.in_ok-read.read.flat;
     }
 
 pub loop-items-smaller : goal.loop-items-smaller

@@ -4,9 +4,9 @@ use Rattle.php_ast.specs.statement.Tree.{while}
 use Rattle.php_grammar.specs.statement.Role.{at_while}
 use Rattle.php_grammar.specs.statement.Forms.{while_head, while_loop, past_loop}
 use Rattle.php_grammar.specs.statement.Machine.{headed}
-use Rattle.php_parse_statement.proofs.Fails.{later}
-use Rattle.php_parse_statement.proofs.Moves.{leads}
-use Rattle.php_parse_statement.proofs.Plain.{begins}
+use Rattle.php_parse_simple.proofs.Fails.{later}
+use Rattle.php_parse_simple.proofs.Moves.{leads}
+use Rattle.php_parse_simple.proofs.Plain.{begins}
 use Rattle.php_parse_statement.proofs.Looping.{while_spans}
 use Rattle.php_parse_statement.proofs.parser.Parser.while_loop.Goals as goal
 
@@ -33,10 +33,16 @@ returns g c =
     let r = c.in_ok-body.ensures in
     record {
       form = while tt e.form r.body;
-      spans = while_spans c.args.self.now.reader.tokens.now _ _ _ _ e.form r.body c.args.at _ _ c.while_statement.ensures c.spot.ensures e.shown e.sized r.shown r.sized;
+      spans = while_spans c.args.self.now.reader.tokens.now _ _ _ _ e.form r.body c.args.at _ _ c.while_statement.ensures.shown c.spot.ensures e.shown e.sized r.shown r.sized;
       reads = leads (λ o. past_loop (while_loop e.form) o)
           (leads (λ o. headed while_head o) (begins at_while h.token h.stands.is h.role_is (λ o. refl) (λ o. refl) c.args.self.now.deep) (e.reads while_head))
           (r.reads (while_loop e.form) refl);
       ahead = omega (arith, e.ahead, r.ahead);
       within = r.within;
     }
+
+pub while_statement-requires-clause-test : goal.while_statement-requires-clause-test
+while_statement-requires-clause-test g c = c.in_ok-test.ensures.flat
+
+pub while_statement-requires-clause-body : goal.while_statement-requires-clause-body
+while_statement-requires-clause-body g c = c.in_ok-body.ensures.flat

@@ -1,0 +1,4 @@
+pub mod Parts
+pub mod Own
+pub mod Met
+pub mod Sites

@@ -1,0 +1,10 @@
+use Rattle.std.proofs.Common.{◌≡◌, map, drop}
+use Rattle.php_ast.specs.declaration.View.{member_view}
+use Rattle.php_forms.specs.MemberFaults as spec
+use Rattle.php_ast.specs.statement.View.{sequence}
+use Rattle.php_legality.specs.Lists.{elements}
+use Rattle.php_places.specs.Over.{over}
+use Rattle.php_forms.proofs.member.check_members.Given as goal
+
+abbrev pub invariant-loop-member : goal.invariant-loop-member
+invariant-loop-member l = over (spec.met_member (spec.owner_of l.in_interface)) (map member_view (drop l.member-index l.members)) l.first ≡ over (spec.met_member (spec.owner_of l.in_interface)) (elements (sequence member_view l.members)) (l.fn.met)

@@ -1,0 +1,4 @@
+mod Loops
+mod Lists
+pub mod Bridge
+mod Limit

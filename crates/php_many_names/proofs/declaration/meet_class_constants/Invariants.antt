@@ -1,0 +1,9 @@
+use Rattle.std.proofs.Common.{◌≡◌, map, take}
+use Rattle.php_ast.specs.statement.Tree.{empty}
+use Rattle.php_ast.specs.statement.View.{sequence_from}
+use Rattle.php_ast.specs.declaration.View.{class_constant_view}
+use Rattle.php_many_names.specs.Met.{over, met_class_constant}
+use Rattle.php_many_names.proofs.declaration.meet_class_constants.Given as goal
+
+abbrev pub invariant-loop-constant : goal.invariant-loop-constant
+invariant-loop-constant l = l.names ≡ over met_class_constant l.fn.names (sequence_from empty (map class_constant_view (take l.constant-index l.constants)))

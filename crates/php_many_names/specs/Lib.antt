@@ -1,0 +1,4 @@
+pub mod Tally
+pub mod Met
+pub mod Parts
+pub mod Promise

@@ -1,0 +1,11 @@
+pub mod Bridge
+pub mod Moves
+pub mod Inside
+pub mod Sees
+pub mod Fails
+pub mod Plain
+pub mod Named
+pub mod Targets
+pub mod Cased
+pub mod Classes
+pub mod Flats

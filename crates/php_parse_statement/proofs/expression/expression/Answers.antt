@@ -1,5 +1,0 @@
-use Rattle.std.proofs.Common.{rules}
-use Rattle.php_parse_statement.proofs.expression.expression.Goals as goal
-
-pub returns : goal.returns
-returns c = search rules

@@ -1,0 +1,54 @@
+-- What is answered of the statement that begins at a place.
+use Rattle.std.specs.Prelude.{◌≡◌, ◌≤◌, ◌<◌, ℕ, ◌+◌, ◌-◌, Some, None, List, [], ◌++◌, take, length}
+use Rattle.php_token.specs.Token.{Token}
+use Rattle.php_ast.specs.Symbol.{Symbol}
+use Rattle.php_ast.specs.declared.statement.Stmt.{Stmt}
+use Rattle.php_ast.specs.expression.View.{Note}
+use Rattle.php_ast.specs.statement.Tree.{Statement}
+use Rattle.php_ast.specs.statement.Placed.{statement_form}
+use Rattle.php_ast.specs.statement.Nesting.{nests_statement}
+use Rattle.php_ast.specs.statement.View.{statement_view}
+use Rattle.php_grammar.specs.Begins.{BeginsStatement}
+use Rattle.php_grammar.specs.TooDeep.{first_too_deep}
+use Rattle.php_grammar.specs.expression.Machine.{Nothing}
+use Rattle.php_grammar.specs.statement.Laws.{SpellsStatement, IsSpelledStatement}
+use Rattle.php_reader.specs.declared.fail.ParseFail.{ParseFail}
+use Rattle.php_reader.specs.declared.fail.ParseFail.TheVariants.{Syntax, TooDeep, NoMemory}
+use Rattle.php_reader.specs.Line.{line_at}
+use Rattle.php_parse_body.specs.Exact.{between, symbols}
+
+-- The tokens from a place to before k begin a statement, and no more tokens do.
+pub record Reaches (tokens : List Token) (at k : ℕ) : Type 0 where
+  pub ahead : at ≤ k
+  pub within : k ≤ length tokens
+  pub begins : BeginsStatement (symbols tokens at k)
+  pub most : (j : ℕ) → k < j → j ≤ length tokens → BeginsStatement (symbols tokens at j) → ⊥
+
+-- The tokens from a place to before k spell this statement and no other, none of them is nested too deep, and no more
+-- tokens begin a statement.
+pub record IsRead (depth : ℕ) (tokens : List Token) (at : ℕ) (s : Stmt) (k : ℕ) : Type 0 where
+  pub reaches : Reaches tokens at k
+  pub spelled : IsSpelledStatement tokens at (statement_view s) (between tokens at k)
+  pub only : (a : Statement Note) → IsSpelledStatement tokens at a (between tokens at k) → a ≡ statement_view s
+  pub shallow : first_too_deep depth (nests_statement (statement_form (statement_view s)) 0 []) ≡ None
+
+-- The tokens from a place to before k begin a statement and spell none, none of them is nested too deep, and no more
+-- tokens begin a statement.
+pub record IsSyntax (depth : ℕ) (tokens : List Token) (at k line : ℕ) : Type 0 where
+  pub reaches : Reaches tokens at k
+  pub unspelled : (s : Statement Nothing) → SpellsStatement s (symbols tokens at k) → ⊥
+  pub shallow : (s : Statement Nothing) (more : List Symbol) → SpellsStatement s (symbols tokens at k ++ more) → first_too_deep depth (take (k - at) (nests_statement s 0 [])) ≡ None
+  pub on_line : line ≡ line_at tokens k
+
+-- The tokens from a place on begin a statement up to and with token k, the first one that is nested too deep.
+pub record IsTooDeep (depth : ℕ) (tokens : List Token) (at k line : ℕ) : Type 0 where
+  pub ahead : at ≤ k
+  pub within : k < length tokens
+  pub begins : BeginsStatement (symbols tokens at (k + 1))
+  pub sinks : (s : Statement Nothing) (more : List Symbol) → SpellsStatement s (symbols tokens at (k + 1) ++ more) → first_too_deep depth (nests_statement s 0 []) ≡ Some (k - at)
+  pub on_line : line ≡ line_at tokens k
+
+abbrev pub IsRefused : ℕ → List Token → ℕ → ParseFail → Type 0
+IsRefused depth tokens at (Syntax k line) = IsSyntax depth tokens at k line
+IsRefused depth tokens at (TooDeep k line) = IsTooDeep depth tokens at k line
+IsRefused depth tokens at NoMemory = Unit {0}
