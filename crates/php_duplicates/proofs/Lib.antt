@@ -1,0 +1,6 @@
+mod Lists
+mod Labels
+mod Views
+pub mod Bridge
+mod SeenLemmas
+mod ScriptLemmas

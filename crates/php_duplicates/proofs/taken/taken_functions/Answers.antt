@@ -1,0 +1,16 @@
+use Rattle.std.proofs.Common.{length, ◌≤◌, ◌∙◌, ap, arith}
+use Rattle.php_ast.specs.declaration.View.{item_view}
+use Rattle.php_duplicates.specs.Met.{taken_function}
+use Rattle.php_duplicates.specs.NamesTaken.{names_taken}
+use Rattle.php_duplicates.proofs.Lists.{step_over, end_over}
+use Rattle.php_duplicates.proofs.taken.taken_functions.Goals as goal
+
+pub loop-item-preserved : goal.loop-item-preserved
+loop-item-preserved c =
+    step_over (taken_function (names_taken c.args.taken)) item_view c.args.items.now c.loop-item.item-index c.item-item.result _ _ _ c.loop-item-test.true c.item-item.is c.loop-item.invariant
+    c.taken_function-first.ensures
+
+pub returns : goal.returns
+returns c =
+    let past : length c.args.items.now ≤ c.loop-item.item-index = omega arith in
+    end_over (taken_function (names_taken c.args.taken)) item_view c.args.items.now c.loop-item.item-index _ _ past c.loop-item.invariant
