@@ -1,7 +1,6 @@
 // Lists: arguments, the items of arrays and lists, and the values of `isset`.
 
-ghost use Rattle.std.specs.Prelude.{◌≡◌, ◌≢◌, ◌≤◌, ◌<◌, ◌+◌, ◌-◌, ◌++◌, [], ◌∷◌, ℕ, length, true, false, IfOk};
-ghost use Rattle.php_ast.specs.declared.expression.Item.TheVariants.{Missing};
+ghost use Rattle.std.specs.Prelude.{◌≡◌, ◌≢◌, ◌≤◌, ◌<◌, ◌+◌, ◌-◌, ℕ, length, true, false};
 ghost use Rattle.php_ast.specs.declared.operator.ArrayForm.TheVariants as array_form;
 ghost use Rattle.php_ast.specs.expression.Tree as tree;
 ghost use Rattle.php_grammar.specs.declared.closer.Closer.TheVariants as ender;
@@ -19,6 +18,7 @@ use crate::parser::Parser;
 use crate::read::{Element, Listed, Read, Taken};
 use php_ast::{Argument, ArrayForm, Expr, Item};
 use php_build::build::{array_expr, is_set_expr};
+use php_build::parts::ended;
 use php_grammar::Closer;
 use php_lex::Tokens;
 use php_reader::Stop;
@@ -27,7 +27,7 @@ use php_reader::look::{
     closed_by, ends_with, next_at, sees_ampersand, sees_paren, sees_reference, sees_spread, spot,
 };
 use sqlite_items::Items;
-use std::alloc::{AllocError, Global};
+use std::alloc::Global;
 
 /// What ends the items of an array or a list.
 fn closer_of(form: ArrayForm) -> Closer
@@ -37,19 +37,6 @@ fn closer_of(form: ArrayForm) -> Closer
         ArrayForm::Brackets => Closer::Bracket,
         ArrayForm::Array | ArrayForm::List => Closer::Paren,
     }
-}
-
-/// The items where a list ends behind a comma, or behind its opening token.
-fn ended(items: Items<Item<Expr>>) -> Result<Items<Item<Expr>>, AllocError>
-    ensures none { items ≡ [] → IfOk result (λ r. r ≡ []) }
-    ensures some { items ≢ [] → IfOk result (λ r. r ≡ items ++ Missing ∷ []) }
-{
-    if items.is_empty() {
-        return Ok(items);
-    }
-    let mut items = items;
-    items.push(Item::Missing)?;
-    Ok(items)
 }
 
 impl<'t, R: ReadsInner> Parser<'t, R> {

@@ -18,6 +18,7 @@ use crate::parser::Parser;
 use crate::read::{Followed, Operand, Read, Taken};
 use php_ast::{Named, Suffix};
 use php_build::build::{chain_expr, property_suffix};
+use php_build::parts::is_call_suffix;
 use php_grammar::Closer;
 use php_lex::Tokens;
 use php_reader::Stop;
@@ -135,10 +136,11 @@ impl<'t, R: ReadsInner> Parser<'t, R> {
         ensures { (f : Form) (start : ℕ) → start + size f ≡ at → draw_strength role.by_call < ends f → AnswersSuffix self.now.reader f start at result }
     {
         let arguments = self.arguments(at + 1)?;
+        let suffix = Suffix::Call(arguments.items);
         Ok(Followed {
             next: arguments.next,
-            suffix: Suffix::Call(arguments.items),
-            is_call: true,
+            is_call: is_call_suffix(&suffix),
+            suffix,
         })
     }
 

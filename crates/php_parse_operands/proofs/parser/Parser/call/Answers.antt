@@ -1,4 +1,4 @@
-use Rattle.std.proofs.Common.{◌+◌, refl, arith}
+use Rattle.std.proofs.Common.{◌+◌, refl, arith, sym}
 use Rattle.std.proofs.lemmas.Result.{err_from_is_err_and}
 use Rattle.php_ast.specs.expression.Tree.{call, none}
 use Rattle.php_grammar.specs.expression.Machine.{of_call, past_items}
@@ -23,7 +23,7 @@ returns g c = λ f start sized low.
       spans = call_spans c.args.self.now.reader.tokens.now f r.items _ start c.args.at _ sized r.spans;
       reads = leads (λ s. past_items (of_call f) none s) (call_begins o.token f o.stands.is o.role_is low c.args.self.now.deep) (r.reads (of_call f) refl);
       ends_is = refl;
-      call_is = refl;
+      call_is = sym c.is_call_suffix.ensures;
       ahead = omega (arith, r.ahead);
       within = r.within;
     }
