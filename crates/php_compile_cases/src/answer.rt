@@ -7,7 +7,7 @@ use php_ast::{Expr, Script, ScriptItem, Spot, Stmt};
 use php_code::Program;
 use php_compile::compile;
 use php_lex::lex;
-use php_parse_body::parse_expr;
+use php_parse_expression::parse_expr;
 use sqlite_items::Items;
 use std::alloc::{AllocError, Global};
 

@@ -6,11 +6,12 @@ ghost use Rattle.php_compare.specs.Outcomes.{Compared, Identified};
 ghost use Rattle.php_compare.specs.Places.{or_null};
 ghost use Rattle.php_glance.specs.Glances.{truth_shown, glance_by, counted, at_a_glance, with_null, with_bool, with_int, with_text, with_array, with_object, like_null, like_bool, like_int, like_text, like_array, like_object, identity_at_a_glance, is_missing, order_of_int_and_text, order_of_text_and_int, Tells, TellsLikeness};
 
-use crate::scalars::{
-    has_truth, number_of, order_by, order_of_bools, order_of_ints, order_of_texts,
-};
+use crate::scalars::number_of;
 use php_memdef::{Obj, Peek};
-use php_value::{ErrorKind, Fault, Order, Stopped, Text};
+use php_value::{
+    ErrorKind, Fault, Order, Stopped, Text, has_truth, order_by, order_of_bools, order_of_ints,
+    order_of_texts,
+};
 
 /// What a look at two values tells of their order.
 #[derive(Clone, Copy)]

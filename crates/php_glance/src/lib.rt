@@ -6,4 +6,4 @@ mod glance;
 mod scalars;
 
 pub use glance::{Glance, Likeness, at_a_glance, identity_at_a_glance, is_missing};
-pub use scalars::{is_same, is_same_key, order_of_bools};
+pub use scalars::{is_same, is_same_key};

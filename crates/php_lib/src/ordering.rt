@@ -15,9 +15,9 @@ ghost use Rattle.php_glance.specs.Glances.{Tells};
 
 use crate::places::{property_place, step_back, step_to};
 use php_base::NoMemory;
-use php_glance::{Glance, at_a_glance, is_missing, is_same, order_of_bools};
+use php_glance::{Glance, at_a_glance, is_missing, is_same};
 use php_memdef::{Memory, Obj, Place};
-use php_value::{ErrorKind, Order, Stopped};
+use php_value::{ErrorKind, Order, Stopped, order_of_bools};
 use std::alloc::Global;
 
 // How many levels of nesting are compared.

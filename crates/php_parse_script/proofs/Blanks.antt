@@ -7,7 +7,7 @@ use Rattle.php_ast.specs.statement.Placed.{size_separated, size_separator, noted
 use Rattle.php_ast.specs.declaration.Tree.{Base, of_name, of_array, of_callable, Type_of, Param, Signature, Function, Modifier, ClassWord, ClassConstant, Method, Rule, renames, prefers, Member, uses, uses_by, class_constants, method, properties, Class, Interface, Trait, Item, of_statement, of_function, of_class, of_interface, of_trait, Script}
 use Rattle.php_ast.specs.declaration.Placed.{noted_base, noted_declared, size_marks, size_param, noted_param, size_joined, noted_joined, noted_function, noted_signature, size_modifier, noted_modifier, size_class_constant, noted_class_constant, noted_method, noted_method_body, noted_alias, noted_one_name, size_rule, noted_rule, size_member, noted_class_member, size_class_word, size_class_words, size_origin, size_one, size_parent, noted_class_word, noted_declared_class, noted_interface, noted_trait, size_item, noted_item, noted_script}
 use Rattle.php_grammar.specs.expression.Machine.{Nothing, Form}
-use Rattle.php_parse_body.proofs.Blanks.{blank as blank_form}
+use Rattle.php_parse_expression.proofs.Blanks.{blank as blank_form}
 use Rattle.php_parse_statement.proofs.Blanks.{blank_name, blank_optional, blank_variable, blank_statement, blank_statements}
 
 -- ---- lists

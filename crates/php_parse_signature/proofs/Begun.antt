@@ -21,8 +21,8 @@ use Rattle.php_grammar.specs.declaration.SignatureMachine.{ParamRole, at_base, a
 use Rattle.php_grammar.proofs.expression.Appended.{spell_append}
 use Rattle.php_grammar.proofs.expression.LawProofs.{reading_begins}
 use Rattle.php_grammar.proofs.expression.Roles.{closer_symbol, Says, continuation_says}
-use Rattle.php_parse_body.proofs.Walked.{halt_unread}
-use Rattle.php_parse_body.proofs.Wholes.{cancel, semicolon, semicolon_none}
+use Rattle.php_parse_expression.proofs.Walked.{halt_unread}
+use Rattle.php_parse_expression.proofs.Wholes.{cancel, semicolon, semicolon_none}
 use Rattle.php_parse_signature.specs.Answer.{spell_front}
 use Rattle.php_parse_signature.proofs.Roles.{RoleSays, role_says}
 use Rattle.php_parse_signature.proofs.Tokens.{paren_is, end_is, colon_is, assign_is}

@@ -7,7 +7,7 @@ use Rattle.php_ast.specs.declaration.Tree.{Base, of_name, of_array, of_callable,
 use Rattle.php_ast.specs.declaration.Placed.{noted_base, noted_declared, noted_param, noted_signature, size_marks, size_param}
 use Rattle.php_grammar.specs.expression.Machine.{Nothing, Form}
 use Rattle.php_grammar.specs.declaration.SignatureMachine.{Params, Declared, type_of, signature_of}
-use Rattle.php_parse_body.proofs.Blanks.{blank}
+use Rattle.php_parse_expression.proofs.Blanks.{blank}
 
 blank_base : (k : ℕ) (base : Base Nothing) → noted_base no_notes k base ≡ base
 blank_base k (of_name n) = refl

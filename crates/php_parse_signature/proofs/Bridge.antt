@@ -13,7 +13,7 @@ use Rattle.php_grammar.specs.TooDeep.{depth_inside}
 use Rattle.php_grammar.specs.statement.Role.{ending}
 use Rattle.php_grammar.specs.declaration.SignatureMachine.{Params, in_default, with_default, with_param, closing, param_end, halt_signature}
 use Rattle.php_parse_operands.specs.Walk as inner
-use Rattle.php_parse_body.proofs.Walked.{halt_unread}
+use Rattle.php_parse_expression.proofs.Walked.{halt_unread}
 use Rattle.php_grammar.proofs.Inside.{Alike, halts_alike}
 use Rattle.php_grammar_laws.specs.Walks.{OutcomeOf, short, deep, outcome, outcome_by, stepped, walk_signature}
 

@@ -12,7 +12,7 @@ use Rattle.php_grammar.specs.expression.Laws.{head_continuation}
 use Rattle.php_grammar.specs.expression.Machine.{Nothing, Form, expects, holds, pick}
 use Rattle.php_grammar.specs.statement.Role.{ending_of, ending, is_assign}
 use Rattle.php_grammar.specs.declaration.SignatureMachine.{Params, SignatureState, due_param, past_param, in_default, past_params, with_default, param_end}
-use Rattle.php_parse_body.proofs.Wholes.{over}
+use Rattle.php_parse_expression.proofs.Wholes.{over}
 use Rattle.php_parse_signature.specs.Answer.{behind, valued, ValueRests}
 use Rattle.php_grammar_laws.specs.Walks.{short, stepped, walk_signature}
 use Rattle.php_parse_signature.proofs.Bridge.{bridge, carried}

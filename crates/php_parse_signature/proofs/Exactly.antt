@@ -20,10 +20,10 @@ use Rattle.php_reader.specs.declared.fail.Stop.TheVariants.{Syntax, TooDeep, NoM
 use Rattle.php_reader.specs.declared.fail.ParseFail.{ParseFail}
 use Rattle.php_reader.specs.Seen.{rest}
 use Rattle.php_reader.specs.Line.{IsLined, line_at}
-use Rattle.php_parse_body.specs.Exact.{between, symbols}
-use Rattle.php_parse_body.proofs.Depths.{AllWithin, none_deep, first_deep}
-use Rattle.php_parse_body.proofs.Exactly.{split, symbols_length}
-use Rattle.php_parse_body.proofs.Wholes.{cancel}
+use Rattle.php_parse_expression.specs.Exact.{between, symbols}
+use Rattle.php_parse_expression.proofs.Depths.{AllWithin, none_deep, first_deep}
+use Rattle.php_parse_expression.proofs.Exactly.{split, symbols_length}
+use Rattle.php_parse_expression.proofs.Wholes.{cancel}
 use Rattle.php_parse_signature.specs.declared.read.ReadSignature.{ReadSignature}
 use Rattle.php_parse_signature.specs.Answer.{StopsAt, Fails, FoundSignature}
 use Rattle.php_parse_signature.specs.Exact.{Reaches, IsRead, IsSyntax, IsTooDeep, IsRefused}

@@ -16,8 +16,8 @@ use Rattle.php_grammar.specs.declaration.Depth.{signature_depth_at, signature_de
 use Rattle.php_grammar.specs.declaration.Laws.{ResultEnds, SpellsSignature}
 use Rattle.php_grammar.proofs.declaration.SignatureBack.{signatures_read_back}
 use Rattle.php_grammar.proofs.declaration.SignatureTrace.{signature_nesting}
-use Rattle.php_parse_body.proofs.Depths.{AllWithin, SinksAt}
-use Rattle.php_parse_body.proofs.Wholes.{cancel, take_front, within_most}
+use Rattle.php_parse_expression.proofs.Depths.{AllWithin, SinksAt}
+use Rattle.php_parse_expression.proofs.Wholes.{cancel, take_front, within_most}
 use Rattle.php_grammar_laws.specs.Walks.{whole, short, deep, walk_signature}
 use Rattle.php_parse_signature.proofs.Begun.{begun_on, begun_halts, HaltsWell}
 use Rattle.php_parse_signature.proofs.Walked.{run, depths, Reads, EndsIn, walks, begun_next, ends_whole, ends_short, ends_deep}

@@ -8,7 +8,7 @@ use Rattle.php_grammar.specs.TooDeep.{taken, depths_taken}
 use Rattle.php_grammar.specs.expression.Machine.{Nothing}
 use Rattle.php_grammar.specs.declaration.SignatureMachine.{SignatureState, advance_signature, halt_signature}
 use Rattle.php_grammar.specs.declaration.Depth.{signature_depth_at}
-use Rattle.php_parse_body.proofs.Walked.{AllAtMost}
+use Rattle.php_parse_expression.proofs.Walked.{AllAtMost}
 use Rattle.php_grammar_laws.specs.Walks.{OutcomeOf, whole, short, deep, outcome_by, outcome, stepped, walk_signature}
 use Rattle.php_parse_signature.proofs.Begun.{Begun, BegunIf, begun_on}
 

@@ -10,7 +10,7 @@ use crate::look::sees_assign;
 use crate::read::{ReadParam, ReadParams, Valued};
 use php_ast::{Expr, Param};
 use php_grammar::Closer;
-use php_parse_body::{Read, read_expression};
+use php_parse_expression::{Read, read_expression};
 use php_reader::limit::LEAST_POWER;
 use php_reader::look::{ends_with, sees_right_paren};
 use php_reader::{Reader, Stop};

@@ -4,7 +4,7 @@ ghost use Rattle.std.specs.Prelude.{◌≤◌, length};
 ghost use Rattle.php_parse_simple.specs.Answer.{AnswersExpression, FailsInside};
 
 use php_lex::Tokens;
-use php_parse_body::{Read, read_expression};
+use php_parse_expression::{Read, read_expression};
 use php_reader::limit::LEAST_POWER;
 use php_reader::look::start_at;
 use php_reader::role::Start;

@@ -5,7 +5,7 @@ ghost use Rattle.php_flat.specs.Statements.{is_flat_key, is_flat_optional, is_fl
 ghost use Rattle.php_reader.specs.declared.fail.Stop.TheVariants.{Syntax};
 
 use php_ast::{CaseEnd, Expr, Name, Stmt, Target};
-use php_parse_body::Read;
+use php_parse_expression::Read;
 use php_reader::Stop;
 use sqlite_items::Items;
 

@@ -8,7 +8,7 @@ use Rattle.php_ast.specs.statement.Tree.{Statements, no_statement, and_statement
 use Rattle.php_ast.specs.statement.Placed.{size_separated, size_separator, noted_separated, size_name, noted_name, size_optional, noted_optional, size_variable, noted_variable, size_constant, noted_constant, size_if, size_target, noted_target, size_key, noted_key, size_head}
 use Rattle.php_ast.specs.statement.Placed.{size_statement, noted_statement, size_statements, noted_statements, size_elseifs, noted_elseifs, size_elseif_lists, noted_elseif_lists, size_body, noted_body, size_cases, noted_cases, size_catches, noted_catches}
 use Rattle.php_grammar.specs.expression.Machine.{Nothing, Form}
-use Rattle.php_parse_body.proofs.Blanks.{blank as blank_expression}
+use Rattle.php_parse_expression.proofs.Blanks.{blank as blank_expression}
 
 -- ---- parts
 

@@ -15,7 +15,7 @@ use Rattle.php_grammar.specs.statement.Laws.{SpellsStatement, IsSpelledStatement
 use Rattle.php_reader.specs.declared.fail.ParseFail.{ParseFail}
 use Rattle.php_reader.specs.declared.fail.ParseFail.TheVariants.{Syntax, TooDeep, NoMemory}
 use Rattle.php_reader.specs.Line.{line_at}
-use Rattle.php_parse_body.specs.Exact.{between, symbols}
+use Rattle.php_parse_expression.specs.Exact.{between, symbols}
 
 -- The tokens from a place to before k begin a statement, and no more tokens do.
 pub record Reaches (tokens : List Token) (at k : ℕ) : Type 0 where

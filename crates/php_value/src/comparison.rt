@@ -48,7 +48,9 @@ pub fn order(a: &Scalar, b: &Scalar) -> Result<Order, Fault>
     }
 }
 
-fn order_of_texts(s: &[u8], t: &[u8]) -> Result<Order, Fault>
+/// Two texts: as integers where both are written so, and by their bytes otherwise. Two numbers of which only a float could hold
+/// one are a fault, unless they are the same bytes.
+pub fn order_of_texts(s: &[u8], t: &[u8]) -> Result<Order, Fault>
     ensures { result ≡ order_of_texts s.now t.now }
 {
     if s == t {
@@ -61,20 +63,22 @@ fn order_of_texts(s: &[u8], t: &[u8]) -> Result<Order, Fault>
     }
 }
 
-fn order_of_ints(x: i64, y: i64) -> Order
+/// The lesser integer comes first.
+pub fn order_of_ints(x: i64, y: i64) -> Order
     ensures { result ≡ order_of_ints x y }
 {
     order_by(x.cmp(&y))
 }
 
-// False is before true.
-fn order_of_bools(x: bool, y: bool) -> Order
+/// False is before true.
+pub fn order_of_bools(x: bool, y: bool) -> Order
     ensures { result ≡ order_of_bools x y }
 {
     order_by(x.cmp(&y))
 }
 
-fn order_by(ordering: Ordering) -> Order
+/// The outcome that the host's ordering stands for.
+pub fn order_by(ordering: Ordering) -> Order
     ensures { result ≡ order_by ordering }
 {
     match ordering {

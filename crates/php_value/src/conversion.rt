@@ -1,6 +1,6 @@
 // What a value is as a bool, as an integer and as a text.
 ghost use Rattle.std.specs.Prelude.{◌≡◌, IfOk};
-ghost use Rattle.php_value.specs.Conversion.{bool_of, int_of, int_of_form, text_of};
+ghost use Rattle.php_value.specs.Conversion.{bool_of, has_truth, int_of, int_of_form, text_of};
 
 use crate::fault::Fault;
 use crate::form::{Form, numeric_form};
@@ -18,7 +18,7 @@ pub fn to_bool(v: &Scalar) -> bool
         Scalar::Null => false,
         Scalar::Bool(b) => *b,
         Scalar::Int(i) => *i != 0,
-        Scalar::Str(text) => !matches!(text.bytes(), [] | [b'0']),
+        Scalar::Str(text) => has_truth(text.bytes()),
     }
 }
 
@@ -35,7 +35,14 @@ pub fn to_int(v: &Scalar) -> Result<i64, Fault>
     }
 }
 
-// The integer that a text of this form stands for.
+/// Whether a text is true: neither the empty text nor `0`.
+pub fn has_truth(text: &[u8]) -> bool
+    ensures { result ≡ has_truth text.now }
+{
+    !matches!(text, [] | [b'0'])
+}
+
+/// The integer that a text of this form stands for. A form that only a float could hold is a fault.
 pub fn int_of_form(form: Form) -> Result<i64, Fault>
     ensures { result ≡ int_of_form form }
 {

@@ -20,8 +20,10 @@ mod scalar_type;
 mod text;
 
 pub use coercion::coerce;
-pub use comparison::{loose, order, strict};
-pub use conversion::{to_bool, to_int, to_text};
+pub use comparison::{
+    loose, order, order_by, order_of_bools, order_of_ints, order_of_texts, strict,
+};
+pub use conversion::{has_truth, int_of_form, to_bool, to_int, to_text};
 pub use error_kind::ErrorKind;
 pub use fault::{Fault, Stopped};
 pub use form::{Form, longest_number_decides, numeric_form};

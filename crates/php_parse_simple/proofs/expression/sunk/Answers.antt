@@ -2,7 +2,7 @@ use Rattle.std.proofs.Common.{arith}
 use Rattle.php_token.specs.Token.{token_at}
 use Rattle.php_reader.specs.RoleView.{start_view}
 use Rattle.php_reader.specs.Seen.{rest}
-use Rattle.php_parse_body.proofs.Onwards.{begun, start_some}
+use Rattle.php_parse_expression.proofs.Onwards.{begun, start_some}
 use Rattle.php_parse_simple.proofs.Sees.{sunk_deep}
 use Rattle.php_parse_simple.proofs.expression.sunk.Goals as goal
 

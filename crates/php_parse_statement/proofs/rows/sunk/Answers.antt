@@ -2,7 +2,7 @@ use Rattle.std.proofs.Common.{sym, ◌∙◌, ap}
 use Rattle.php_token.specs.Token.{token_at}
 use Rattle.php_reader.specs.RoleView.{start_view}
 use Rattle.php_reader.specs.Seen.{head_beginning}
-use Rattle.php_parse_body.proofs.Onwards.{begun, start_some}
+use Rattle.php_parse_expression.proofs.Onwards.{begun, start_some}
 use Rattle.php_parse_statement.proofs.Chosen.{no_expression}
 use Rattle.php_parse_statement.proofs.Lists.{starts_head}
 use Rattle.php_parse_statement.proofs.Outermost.{brace_sunk, form_sunk, expression_sunk, nothing_sunk}

@@ -1,0 +1,4 @@
+use Rattle.php_parse_expression.proofs.expression.+read_expression.Given as goal
+
+abbrev pub decreases-read_expression : goal.decreases-read_expression
+decreases-read_expression l = l.reader.now.room
