@@ -4,3 +4,4 @@ pub mod Proper
 pub mod Nesting
 pub mod Placed
 pub mod View
+pub mod Parts

@@ -17,7 +17,7 @@ use Rattle.php_legality.proofs.HasLemmas.{map_flat_map}
 use Rattle.php_places.specs.Over.{over}
 use Rattle.php_places.specs.Met.{met_used}
 use Rattle.php_bodies.specs.Own.{met_any, met_optional, met_variable, met_constant_item, met_constant, met_optional_constant, met_first_value, met_constant_value}
-use Rattle.php_bodies.specs.Parts.{elseif_with, elseif_list_with, case_with}
+use Rattle.php_ast.specs.statement.Parts.{elseif_with, elseif_list_with, case_with}
 use Rattle.php_bodies.proofs.OverLemmas.{over_joined, over_map, over_flat}
 
 -- ---- values

@@ -1,4 +1,3 @@
-pub mod Parts
 pub mod Own
 pub mod Met
 pub mod Sites

@@ -10,7 +10,7 @@ ghost use Rattle.php_legality.specs.Statements as meant;
 ghost use Rattle.php_places.specs.Over.{over};
 ghost use Rattle.php_places.specs.Uses.{use_view};
 ghost use Rattle.php_bodies.specs.Own as spec;
-ghost use Rattle.php_bodies.specs.Parts as part;
+ghost use Rattle.php_ast.specs.statement.Parts as part;
 
 use php_ast::{Case, ConstantItem, ElseIf, Expr, ForHead, ForeachHead, Stmt, Target, VariableItem};
 use php_legality::{Fault, Scope};

@@ -6,7 +6,7 @@ ghost use Rattle.php_ast.specs.statement.View.{statement_view, name_view, names_
 ghost use Rattle.php_legality.specs.Lists.{elements};
 ghost use Rattle.php_places.specs.Over.{over};
 ghost use Rattle.php_bodies.specs.Own as spec;
-ghost use Rattle.php_bodies.specs.Parts as part;
+ghost use Rattle.php_ast.specs.statement.Parts as part;
 
 use crate::constants::check_constants;
 use crate::own::walk_expressions;

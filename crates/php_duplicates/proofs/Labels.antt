@@ -16,7 +16,7 @@ use Rattle.php_legality.specs.First.{first_from}
 use Rattle.php_legality.specs.Rows.{defaults_in}
 use Rattle.php_duplicates.specs.Saw.{duplicate_at}
 use Rattle.php_duplicates.specs.Met.{is_default, labels, met_labels}
-use Rattle.php_duplicates.specs.Parts.{case_with}
+use Rattle.php_ast.specs.statement.Parts.{case_with}
 
 -- the note of a label that is `default`
 abbrev at_default : Bool → Spot → List Note

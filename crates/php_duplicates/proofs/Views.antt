@@ -11,7 +11,7 @@ use Rattle.php_ast.specs.statement.Tree.{Statement, Statements, Catches, no_catc
 use Rattle.php_ast.specs.statement.View.{optional, list_view, catches_from, try_view, statement_view, statement_step}
 use Rattle.php_legality.specs.declared.fault.Fault.{Fault}
 use Rattle.php_duplicates.specs.Met.{met_statement, met_list, met_catches, met_last}
-use Rattle.php_duplicates.specs.Parts.{catch_with}
+use Rattle.php_ast.specs.statement.Parts.{catch_with}
 
 view_try : (spot : Spot) (body : List Stmt) (catches : List (Catch Stmt)) (last : Option (List Stmt))
     → statement_view (Try spot body catches last) ≡ try_view (spot_view spot) (list_view (map statement_view body)) (catches_from no_catch (map (catch_with statement_view) catches)) (optional (map statement_view) last)

@@ -1,6 +1,5 @@
 pub mod Over
 pub mod Saw
 pub mod NamesTaken
-pub mod Parts
 pub mod Met
 pub mod Promise

@@ -5,7 +5,7 @@ ghost use Rattle.php_ast.specs.statement.Tree.{no_elseif, no_elseif_list, no_cas
 ghost use Rattle.php_ast.specs.statement.View as shown;
 ghost use Rattle.php_ast.specs.statement.View.{statement_view, optional};
 ghost use Rattle.php_duplicates.specs.Met as spec;
-ghost use Rattle.php_duplicates.specs.Parts as shaped;
+ghost use Rattle.php_ast.specs.statement.Parts as shaped;
 
 use crate::seen::met_if;
 use php_ast::{Body, Case, Catch, ElseIf, Expr, Stmt};

@@ -12,7 +12,7 @@ use Rattle.php_ast.specs.statement.View.{optional, list_view, catches_from, try_
 use Rattle.php_legality.specs.declared.fault.Fault.{Fault}
 use Rattle.php_legality.specs.Statements.{Around, finally_block}
 use Rattle.php_jumps.specs.Met.{met_statement, met_list, met_catches, met_last}
-use Rattle.php_jumps.specs.Parts.{catch_with}
+use Rattle.php_ast.specs.statement.Parts.{catch_with}
 
 view_try : (spot : Spot) (body : List Stmt) (catches : List (Catch Stmt)) (last : Option (List Stmt))
     → statement_view (Try spot body catches last) ≡ try_view (spot_view spot) (list_view (map statement_view body)) (catches_from no_catch (map (catch_with statement_view) catches)) (optional (map statement_view) last)

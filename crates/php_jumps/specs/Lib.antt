@@ -1,5 +1,4 @@
 pub mod Counts
-pub mod Parts
 pub mod Met
 pub mod Gives
 pub mod Promise

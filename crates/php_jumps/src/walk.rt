@@ -6,7 +6,7 @@ ghost use Rattle.php_ast.specs.statement.View as shown;
 ghost use Rattle.php_ast.specs.statement.View.{statement_view, optional};
 ghost use Rattle.php_jumps.specs.Gives.{Gives};
 ghost use Rattle.php_jumps.specs.Met as spec;
-ghost use Rattle.php_jumps.specs.Parts as part;
+ghost use Rattle.php_ast.specs.statement.Parts as part;
 
 use crate::around::{Around, in_finally, in_loop};
 use crate::level::at_jump;

@@ -1,4 +1,3 @@
 pub mod Tally
 pub mod Met
-pub mod Parts
 pub mod Promise

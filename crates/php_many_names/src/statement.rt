@@ -6,7 +6,7 @@ ghost use Rattle.php_ast.specs.statement.Tree.{no_case, no_catch, no_elseif, no_
 ghost use Rattle.php_ast.specs.statement.View as shown;
 ghost use Rattle.php_ast.specs.statement.View.{list_view, optional, statement_view};
 ghost use Rattle.php_many_names.specs.Met as met;
-ghost use Rattle.php_many_names.specs.Parts as shaped;
+ghost use Rattle.php_ast.specs.statement.Parts as shaped;
 
 use crate::expression::{meet_expr, meet_optional, meet_values};
 use crate::names::{Names, meet_dollar, meet_name};

@@ -6,6 +6,7 @@ ghost use Rattle.php_token.specs.declared.kind.Keyword.TheVariants as word;
 ghost use Rattle.php_token.specs.declared.kind.Punct.TheVariants as mark;
 ghost use Rattle.php_print.specs.Print.{Prints};
 ghost use Rattle.php_print_script.specs.statement.Elements as element;
+ghost use Rattle.php_ast.specs.statement.Parts as shaped;
 ghost use Rattle.php_ast.specs.statement.Spelling as spelling;
 ghost use Rattle.php_ast.specs.statement.View as shown;
 ghost use Rattle.php_ast.specs.statement.View.{statement_view, optional};
@@ -98,7 +99,7 @@ pub(crate) fn put_block(printer: &mut Printer, body: &[Stmt]) -> Result<(), NoMe
 #[cycle(statements)]
 fn put_body(printer: &mut Printer, behind: Keyword, body: &Body<Stmt>) -> Result<(), NoMemory>
     ensures { OnOk result (Prints (spelling.spell_body behind (shown.body_view
-        (element.body_with statement_view body.now))) printer.old printer.new) }
+        (shaped.body_with statement_view body.now))) printer.old printer.new) }
 {
     match body {
         Body::Single(s) => put_statement(printer, s.get()),
@@ -143,7 +144,7 @@ fn put_if(
 
 #[cycle(statements)]
 fn put_elseif(printer: &mut Printer, part: &ElseIf<Boxed<Stmt>>) -> Result<(), NoMemory>
-    ensures { OnOk result (Prints (element.spell_elseif (element.elseif_with statement_view part.now))
+    ensures { OnOk result (Prints (element.spell_elseif (shaped.elseif_with statement_view part.now))
         printer.old printer.new) }
 {
     printer.put_head(Keyword::ElseIf, &part.test)?;
@@ -202,7 +203,7 @@ fn put_list_behind(
 #[cycle(statements)]
 fn put_elseif_list(printer: &mut Printer, part: &ElseIf<Items<Stmt>>) -> Result<(), NoMemory>
     ensures { OnOk result (Prints (element.spell_elseif_list
-        (element.elseif_list_with statement_view part.now)) printer.old printer.new) }
+        (shaped.elseif_list_with statement_view part.now)) printer.old printer.new) }
 {
     put_list_behind(printer, Keyword::ElseIf, &part.test, part.body.as_slice())
 }
@@ -241,7 +242,7 @@ fn put_switch(
 
 #[cycle(statements)]
 fn put_case(printer: &mut Printer, case: &Case<Stmt>) -> Result<(), NoMemory>
-    ensures { OnOk result (Prints (element.spell_case (element.case_with statement_view case.now))
+    ensures { OnOk result (Prints (element.spell_case (shaped.case_with statement_view case.now))
         printer.old printer.new) }
 {
     put_label(printer, &case.value)?;
@@ -270,7 +271,7 @@ fn put_try(
 
 #[cycle(statements)]
 fn put_catch(printer: &mut Printer, catch: &Catch<Stmt>) -> Result<(), NoMemory>
-    ensures { OnOk result (Prints (element.spell_catch (element.catch_with statement_view catch.now))
+    ensures { OnOk result (Prints (element.spell_catch (shaped.catch_with statement_view catch.now))
         printer.old printer.new) }
 {
     put_catch_head(printer, catch.classes.as_slice(), &catch.variable)?;

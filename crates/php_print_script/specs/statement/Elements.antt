@@ -1,11 +1,9 @@
--- Parts of statements of the program with a function at each statement in them, and their spelling.
+-- How parts of statements of the program are spelled.
 use Rattle.std.specs.Prelude.{Option, Some, None, List, ◌∷◌, map}
 use Rattle.php_token.specs.declared.kind.Keyword.TheVariants as word
 use Rattle.php_token.specs.declared.kind.Punct.TheVariants as mark
 use Rattle.php_ast.specs.declared.statement.Stmt.{Stmt}
 use Rattle.php_ast.specs.declared.statement.ElseIf.{ElseIf}
-use Rattle.php_ast.specs.declared.statement.Body.{Body}
-use Rattle.php_ast.specs.declared.statement.Body.TheVariants as body_form
 use Rattle.php_ast.specs.declared.statement.Case.{Case}
 use Rattle.php_ast.specs.declared.statement.Catch.{Catch}
 use Rattle.php_ast.specs.declared.statement.ForHead.{ForHead}
@@ -19,25 +17,8 @@ use Rattle.php_ast.specs.Symbol.{Symbol, keyword, punct}
 use Rattle.php_ast.specs.expression.View.{Note, view}
 use Rattle.php_ast.specs.statement.Tree.{Statement, no_elseif, no_elseif_list, no_case, no_catch}
 use Rattle.php_ast.specs.statement.View.{optional, list_view, name_view, names_view, values_view, target_view, elseifs_from, elseif_lists_from, cases_from, catches_from, statement_view}
+use Rattle.php_ast.specs.statement.Parts.{elseif_with, elseif_list_with, case_with, catch_with}
 use Rattle.php_ast.specs.statement.Spelling.{separated, spell_head, spell_name, spell_dollar, spell_label, case_end_symbol, spell_key, spell_target, cases_opening, cases_closing, spell_statement, spell_statements, spell_elseifs, spell_elseif_lists, spell_cases, spell_catches}
-
--- ---- parts
-
-abbrev pub elseif_with : {A : Type 0} → (Stmt → A) → ElseIf Stmt → ElseIf A
-elseif_with f p = record { test = p.test; body = f p.body }
-
-abbrev pub elseif_list_with : {A : Type 0} → (Stmt → A) → ElseIf (List Stmt) → ElseIf (List A)
-elseif_list_with f p = record { test = p.test; body = map f p.body }
-
-abbrev pub body_with : {A : Type 0} → (Stmt → A) → Body Stmt → Body A
-body_with f (body_form.Single s) = body_form.Single (f s)
-body_with f (body_form.Colon ss) = body_form.Colon (map f ss)
-
-abbrev pub case_with : {A : Type 0} → (Stmt → A) → Case Stmt → Case A
-case_with f c = record { spot = c.spot; value = c.value; end = c.end; body = map f c.body }
-
-abbrev pub catch_with : {A : Type 0} → (Stmt → A) → Catch Stmt → Catch A
-catch_with f c = record { classes = c.classes; variable = c.variable; body = map f c.body }
 
 -- ---- one element of a list, in front of what follows it
 

@@ -3,7 +3,7 @@ use Rattle.php_ast.specs.statement.Tree.{no_elseif, no_elseif_list, no_case, no_
 use Rattle.php_ast.specs.statement.View.{statement_view, elseifs_from, elseif_lists_from, cases_from, catches_from, name_view}
 use Rattle.php_legality.specs.Statements as meant
 use Rattle.php_bodies.specs.Own as spec
-use Rattle.php_bodies.specs.Parts as part
+use Rattle.php_ast.specs.statement.Parts as part
 use Rattle.php_bodies.proofs.OwnLemmas.{at_test, at_label, tests_over, list_tests_over, labels_over}
 use Rattle.php_bodies.proofs.Lists.{names_of, names_over}
 use Rattle.php_places.specs.Over.{over}

@@ -2,7 +2,7 @@ use Rattle.std.proofs.Common.{map, length, ◌≤◌, arith, refl, ap, ◌∙◌
 use Rattle.php_ast.specs.statement.Tree.{no_statement, no_elseif, no_elseif_list, no_case, no_catch}
 use Rattle.php_ast.specs.statement.View.{statement_view, list_view, catches_from}
 use Rattle.php_bodies.specs.Met.{met_statement, met_list, met_catches}
-use Rattle.php_bodies.specs.Parts.{elseif_with, elseif_list_with, case_with, catch_with}
+use Rattle.php_ast.specs.statement.Parts.{elseif_with, elseif_list_with, case_with, catch_with}
 use Rattle.php_bodies.proofs.Lists.{at_elseif, at_elseif_list, at_case, at_catch, list_over, elseifs_over, elseif_lists_over, cases_over, catches_over}
 use Rattle.php_places.proofs.Lists.{step_over, end_over}
 use Rattle.php_weights.proofs.Expressions.{heavier, total}

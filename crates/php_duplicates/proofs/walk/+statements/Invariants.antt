@@ -3,7 +3,7 @@ use Rattle.php_ast.specs.statement.Tree.{no_elseif, no_elseif_list, no_case, no_
 use Rattle.php_ast.specs.statement.View.{optional, list_view, elseifs_from, elseif_lists_from, cases_from, catches_from, statement_view}
 use Rattle.php_duplicates.specs.Over.{over}
 use Rattle.php_duplicates.specs.Met.{met_statement, met_list, met_elseifs, met_elseif_lists, met_cases, met_catches}
-use Rattle.php_duplicates.specs.Parts.{elseif_with, elseif_list_with, body_with, case_with, catch_with}
+use Rattle.php_ast.specs.statement.Parts.{elseif_with, elseif_list_with, body_with, case_with, catch_with}
 use Rattle.php_weights.proofs.Expressions.{total}
 use Rattle.php_weights.proofs.Statements.{same, elseif_weight, elseif_list_weight, body_weight, case_weight, catch_weight, last_weight, last_list_weight, statement_weight}
 use Rattle.php_duplicates.proofs.Lists.{at_elseif, at_elseif_list, at_case, at_catch}

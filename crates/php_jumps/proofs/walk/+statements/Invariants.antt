@@ -4,7 +4,7 @@ use Rattle.php_ast.specs.statement.View.{optional, list_view, elseifs_from, else
 use Rattle.php_legality.specs.Statements.{Around}
 use Rattle.php_jumps.specs.Counts.{Counts}
 use Rattle.php_jumps.specs.Met.{over, met_statement, met_list, met_elseifs, met_elseif_lists, met_cases, met_catches}
-use Rattle.php_jumps.specs.Parts.{elseif_with, elseif_list_with, body_with, case_with, catch_with}
+use Rattle.php_ast.specs.statement.Parts.{elseif_with, elseif_list_with, body_with, case_with, catch_with}
 use Rattle.php_weights.proofs.Expressions.{total}
 use Rattle.php_weights.proofs.Statements.{same, elseif_weight, elseif_list_weight, body_weight, case_weight, catch_weight, last_weight, last_list_weight, statement_weight}
 use Rattle.php_jumps.proofs.Lists.{at_elseif, at_elseif_list, at_case, at_catch}

@@ -3,7 +3,7 @@ use Rattle.php_ast.specs.statement.Tree.{no_statement, no_elseif, no_elseif_list
 use Rattle.php_ast.specs.statement.View.{statement_view}
 use Rattle.php_weights.proofs.Expressions.{part_weight}
 use Rattle.php_weights.proofs.Statements.{same, elseif_weight, elseif_list_weight, case_weight, catch_weight, statement_weight}
-use Rattle.php_many_names.specs.Parts.{elseif_with, elseif_list_with, case_with, catch_with}
+use Rattle.php_ast.specs.statement.Parts.{elseif_with, elseif_list_with, case_with, catch_with}
 use Rattle.php_many_names.proofs.Lists.{statements_kept, statements_whole, elseifs_kept, elseifs_whole, elseif_lists_kept, elseif_lists_whole, cases_kept, cases_whole, catches_kept, catches_whole}
 use Rattle.php_many_names.proofs.statement.+statements.Goals as goal
 

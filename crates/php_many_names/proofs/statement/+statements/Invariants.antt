@@ -5,7 +5,7 @@ use Rattle.php_ast.specs.statement.View.{optional, statements_from, elseifs_from
 use Rattle.php_weights.proofs.Expressions.{total}
 use Rattle.php_weights.proofs.Statements.{same, elseif_weight, elseif_list_weight, body_weight, case_weight, catch_weight, last_weight, last_list_weight, statement_weight}
 use Rattle.php_many_names.specs.Met.{met_tree, met_list, met_elseifs, met_elseif_lists, met_cases, met_catches}
-use Rattle.php_many_names.specs.Parts.{elseif_with, elseif_list_with, body_with, case_with, catch_with}
+use Rattle.php_ast.specs.statement.Parts.{elseif_with, elseif_list_with, body_with, case_with, catch_with}
 use Rattle.php_many_names.proofs.statement.+statements.Given as goal
 
 abbrev pub decreases-meet_statement : goal.decreases-meet_statement

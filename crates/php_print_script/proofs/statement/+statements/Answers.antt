@@ -6,7 +6,8 @@ use Rattle.php_ast.specs.expression.View.{view}
 use Rattle.php_ast.specs.statement.Tree.{no_statement, no_elseif, no_elseif_list, no_case, no_catch}
 use Rattle.php_ast.specs.statement.Spelling.{spell_head, cases_opening, cases_closing, spell_statement, spell_statements, spell_elseifs, spell_elseif_lists, spell_cases, spell_catches}
 use Rattle.php_ast.specs.statement.View.{optional, list_view, elseifs_from, elseif_lists_from, cases_from, catches_from, statement_view}
-use Rattle.php_print_script.specs.statement.Elements.{elseif_with, elseif_list_with, case_with, catch_with, spell_braces, spell_elseif, spell_elseif_list, spell_case, spell_catch, spell_else, spell_else_list, spell_finally}
+use Rattle.php_ast.specs.statement.Parts.{elseif_with, elseif_list_with, case_with, catch_with}
+use Rattle.php_print_script.specs.statement.Elements.{spell_braces, spell_elseif, spell_elseif_list, spell_case, spell_catch, spell_else, spell_else_list, spell_finally}
 use Rattle.php_print.proofs.Lists.{behind, step_all, end_all}
 use Rattle.php_print_script.proofs.Lists.{statements_spelled, elseifs_spelled, elseif_lists_spelled, cases_spelled, catches_spelled}
 use Rattle.php_weights.proofs.Expressions.{heavier}

@@ -6,7 +6,8 @@ use Rattle.php_ast.specs.expression.View.{view}
 use Rattle.php_ast.specs.statement.Tree.{no_elseif, no_elseif_list, no_case, no_catch}
 use Rattle.php_ast.specs.statement.Spelling.{spell_head, cases_opening, spell_statement, spell_statements, spell_elseifs, spell_elseif_lists, spell_cases, spell_catches}
 use Rattle.php_ast.specs.statement.View.{optional, list_view, elseifs_from, elseif_lists_from, cases_from, catches_from, statement_view}
-use Rattle.php_print_script.specs.statement.Elements.{elseif_with, elseif_list_with, body_with, case_with, catch_with, spell_braces, spell_elseif, spell_elseif_list, spell_case, spell_catch}
+use Rattle.php_ast.specs.statement.Parts.{elseif_with, elseif_list_with, body_with, case_with, catch_with}
+use Rattle.php_print_script.specs.statement.Elements.{spell_braces, spell_elseif, spell_elseif_list, spell_case, spell_catch}
 use Rattle.php_print.proofs.Lists.{all}
 use Rattle.php_weights.proofs.Expressions.{total}
 use Rattle.php_weights.proofs.Statements.{same, elseif_weight, elseif_list_weight, body_weight, case_weight, catch_weight, last_weight, last_list_weight, statement_weight}
