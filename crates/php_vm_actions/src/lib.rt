@@ -15,6 +15,7 @@ mod texts;
 
 pub use did::{Cause, Did};
 pub use names::do_name;
+pub use operands::truth_at;
 pub use operators::do_operator;
 pub use output::do_output;
 pub use places::do_place;
