@@ -47,11 +47,11 @@ module _ (program : Program) (first : Data) (cs : List (List Place)) where
   told_first None out e = refl
   told_first (Some x) out e = ap Some (sym (append-nil x) ∙ ap (λ y. x ++ y) (sym e))
 
-  pub begun : (Means : Mem → Type 0) (written : Option (List ℕ)) (s : State) (count : ℕ) → cs ≡ control_of s.frame → count ≡ 0 → BeginsWith Means s first → IsUnderWay Means written written s count
-  begun Means written s count c z h = record {
+  pub begun : (Means : Mem → Type 0) (written : Option (List ℕ)) (s : State) (count : ℕ) → cs ≡ control_of s.frame → count ≡ 0 → s.taken ≡ 0 → BeginsWith Means s.frame s.left first → IsUnderWay Means written written s count
+  begun Means written s count c z t h = record {
     here = first;
     rest = bound;
-    stands = record { mem = h.mem; told = told_first written first.out h.out; left = h.left; taken = h.taken; frames = h.frames; constants = h.constants; status = h.status; block = h.block };
+    stands = record { mem = h.mem; told = told_first written first.out h.out; left = h.left; taken = h.taken ∙ sym t; frames = h.frames; constants = h.constants; status = h.status; block = h.block };
     comes = subst (λ x. Comes program 0 first cs first x) c (comes_nowhere program first cs);
     within = omega (arith, z);
     over = subst (λ x. IsOver (runs_from program bound [] first x)) c bound_ends;
@@ -94,7 +94,7 @@ module _ (program : Program) (first : Data) (cs : List (List Place)) where
         by zero over h = absurd over
         by (suc n) over h = omega (arith, h)
 
-    pub ends_so : (cause : Cause) → Steps program AnyData Old New wo wn so sn (Ends cause) → EndsSo program first cs New wn before sn (ending_of cause)
+    pub ends_so : (cause : Cause) → Steps program AnyData Old New wo wn so sn (Ends cause) → EndsSo program first cs New wn before sn.taken (ending_of cause)
     ends_so cause steps =
         let o = by_step (Ends cause) steps in
         let way = comes_both program u.comes o.comes in
@@ -121,20 +121,20 @@ module _ (program : Program) (first : Data) (cs : List (List Place)) where
           let h = fewer_zeros s.to.taken e.taken g.0 g.1 in
           omega (arith, t, h)
 
-      left_at : IsLeft program first cs wn before sn
+      left_at : IsLeft program first cs wn before sn.taken
       left_at = record {
         to = s.to;
         control = s.control;
         comes = way;
         short = s.short;
         begins = λ n ns ending e is. Begins_trans s.short.sent s.to.out e.out s.short.begins (grown output_of (only_writes-lem program.facts) n ns ending e is);
-        ticks = fewer;
+        no_more_ticks = fewer;
       }
 
-    pub fails_so : Steps program AnyData Old New wo wn so sn SinkFault → IsLeft program first cs wn before sn
+    pub fails_so : Steps program AnyData Old New wo wn so sn SinkFault → IsLeft program first cs wn before sn.taken
     fails_so steps = left_at (by_step SinkFault steps)
 
-    pub wants_so : Steps program AnyData Old New wo wn so sn NoMemory → IsLeft program first cs wn before sn
+    pub wants_so : Steps program AnyData Old New wo wn so sn NoMemory → IsLeft program first cs wn before sn.taken
     wants_so steps = left_at (by_step NoMemory steps)
 
   pub counted_on : (Means : Mem → Type 0) (written before : Option (List ℕ)) (s : State) (count more : ℕ) → more ≡ count + 1 → IsUnderWay Means written before s (count + 1) → IsUnderWay Means written before s more

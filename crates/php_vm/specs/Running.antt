@@ -34,17 +34,17 @@ pub record Stands (Means : Mem → Type 0) (written before : Option (List ℕ)) 
   pub block : IsBlock d.mem s.frame.block.0
 
 -- the run is over with this data
-pub record IsLast (Means : Mem → Type 0) (written before : Option (List ℕ)) (s : State) (d : Data) : Type 0 where
+pub record IsLast (Means : Mem → Type 0) (written before : Option (List ℕ)) (ticks : ℕ) (d : Data) : Type 0 where
   pub mem : Means d.mem
   pub told : GrewBy before written d.out
-  pub taken : d.taken ≡ s.taken
+  pub taken : d.taken ≡ ticks
 
 -- the output is the beginning of what this data has
-pub record IsCutShort (written before : Option (List ℕ)) (s : State) (d : Data) : Type 0 where
+pub record IsCutShort (written before : Option (List ℕ)) (ticks : ℕ) (d : Data) : Type 0 where
   pub sent : List ℕ
   pub told : GrewBy before written sent
   pub begins : Begins sent d.out
-  pub taken : d.taken ≡ s.taken
+  pub taken : d.taken ≡ ticks
 
 -- ---- moves
 
@@ -55,9 +55,9 @@ pub record Puts (P : Data → Type 0) (move : Move) (put : Data → Move) : Type
 
 abbrev pub IsMoved : (Mem → Type 0) → Option (List ℕ) → Option (List ℕ) → State → Did → Data → Move → Type 0
 IsMoved New written before s Goes d move = Puts (Stands New written before s) move Next
-IsMoved New written before s (Ends cause) d move = Puts (IsLast New written before s) move (End (ending_of cause))
-IsMoved New written before s SinkFault d move = Puts (IsCutShort written before s) move Next
-IsMoved New written before s NoMemory d move = IsCutShort written before s d
+IsMoved New written before s (Ends cause) d move = Puts (IsLast New written before s.taken) move (End (ending_of cause))
+IsMoved New written before s SinkFault d move = Puts (IsCutShort written before s.taken) move Next
+IsMoved New written before s NoMemory d move = IsCutShort written before s.taken d
 
 -- from each data in which the machine stood, the move is done where it isn't stuck
 pub record Moves (Old New : Mem → Type 0) (written_old written_new : Option (List ℕ)) (s_old s_new : State) (did : Did) (move : Data → Move) : Type 0 where
@@ -118,13 +118,13 @@ module _ (program : Program) where
     pub to : Data
     pub comes : Comes 0 d cs at control
     pub ends : EndsNow at control ending to
-    pub last : IsLast New written before s to
+    pub last : IsLast New written before s.taken to
 
   pub record StopsShort (written before : Option (List ℕ)) (s : State) (d : Data) (cs : List (List Place)) : Type 0 where
     pub to : Data
     pub control : List (List Place)
     pub comes : Comes 0 d cs to control
-    pub short : IsCutShort written before s to
+    pub short : IsCutShort written before s.taken to
 
   abbrev pub IsStepped : (Mem → Type 0) → Option (List ℕ) → Option (List ℕ) → State → Did → Data → List (List Place) → Type 0
   IsStepped New written before s Goes d cs = GoesOn New written before s d cs

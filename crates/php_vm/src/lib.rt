@@ -4,7 +4,9 @@
 mod state;
 mod step;
 mod steps;
+mod stop;
 mod vm;
 
-pub use state::State;
-pub use vm::run;
+pub use php_vm_actions::Cause;
+pub use stop::{Ended, Stop};
+pub use vm::Vm;

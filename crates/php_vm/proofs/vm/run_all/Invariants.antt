@@ -1,4 +1,4 @@
-use Rattle.php_vm.proofs.vm.run.Given as goal
+use Rattle.php_vm.proofs.vm.run_all.Given as goal
 
 -- the same data, and a ledger of this call alone
 abbrev pub ghost-run_on : goal.ghost-run_on
