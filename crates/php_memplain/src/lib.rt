@@ -2,7 +2,11 @@
 #![tactic(auto)]
 
 mod blocks;
+mod copying;
 mod memory;
 mod moves;
+mod names;
+mod objects;
+mod turning;
 
 pub use memory::MemPlain;
