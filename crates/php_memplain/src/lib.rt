@@ -4,5 +4,6 @@
 mod blocks;
 mod memory;
 mod moves;
+mod reading;
 
 pub use memory::MemPlain;
