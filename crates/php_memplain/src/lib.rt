@@ -7,6 +7,7 @@ mod memory;
 mod moves;
 mod names;
 mod objects;
+mod reading;
 mod turning;
 
 pub use memory::MemPlain;
