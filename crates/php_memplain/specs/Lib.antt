@@ -1,3 +1,4 @@
 pub mod Rooms
 pub mod Variables
+pub mod Changes
 pub mod Means

@@ -34,6 +34,22 @@ pub fn pop_item(block: &mut Block) -> Option<Item>
     block.temps.pop()
 }
 
+/// Puts an item in the place of the top item, which is handed out.
+pub fn swap_top(block: &mut Block, item: Item) -> Item
+    requires { 0 < length block.old.temps.items }
+    ensures seen { scope_seen block.new ≡ record (scope_seen block.old) { temps = item_seen item ∷ rest_of (scope_seen block.old).temps } }
+    ensures top { item_seen result ≡ top_of (scope_seen block.old).temps }
+{
+    let Some(top) = block.temps.pop() else {
+        unreachable!();
+    };
+    match block.temps.push(item) {
+        Ok(()) => {}
+        Err(_) => unreachable!(),
+    }
+    top
+}
+
 /// Lets an item fall behind all others, for which there is room.
 pub fn fall_last(block: &mut Block, item: Item)
     requires { HasWaitingRoom block.old }

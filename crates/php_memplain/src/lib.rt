@@ -2,7 +2,12 @@
 #![tactic(auto)]
 
 mod blocks;
+mod copying;
 mod memory;
 mod moves;
+mod names;
+mod objects;
+mod reading;
+mod turning;
 
 pub use memory::MemPlain;

@@ -24,7 +24,7 @@ use std::alloc::Global;
 /// Variables, temporaries, objects and what they hold, each array by itself.
 #[derive(Drop)]
 pub struct MemPlain {
-    cells: Cells,
+    pub(crate) cells: Cells,
 }
 
 fn content_of(value: Scalar) -> Content

@@ -2,11 +2,11 @@
 ghost use Rattle.std.specs.Prelude.{◌≡◌};
 ghost use Rattle.slab.specs.Slab.{ContainsKey};
 ghost use Rattle.php_memdef.specs.Conditions.{HasRoom, HasTemp, HasFallingRoom};
-ghost use Rattle.php_memdef.specs.Temporaries.{pushed, popped, top, let_fall};
+ghost use Rattle.php_memdef.specs.Temporaries.{pushed, popped, top, with_top, let_fall};
 ghost use Rattle.php_memplain_cells.specs.Seen.{item_seen};
 ghost use Rattle.php_memplain_cells.specs.Memory.{memory_seen};
 
-use crate::blocks::{fall_last, pop_item, push_item};
+use crate::blocks::{fall_last, pop_item, push_item, swap_top};
 use php_memplain_cells::{Cells, Item};
 
 /// Puts an item on top of a block.
@@ -36,6 +36,20 @@ pub fn pop(cells: &mut Cells, block: usize) -> Item
         Some(item) => item,
         None => unreachable!(),
     }
+}
+
+/// Puts an item in the place of the top item of a block, which is handed out.
+pub fn swap(cells: &mut Cells, block: usize, item: Item) -> Item
+    requires block { ContainsKey cells.old.blocks block }
+    requires some { HasTemp (memory_seen cells.old) block }
+    ensures seen { memory_seen cells.new ≡ with_top (memory_seen cells.old) block (item_seen item) }
+    ensures top { item_seen result ≡ top (memory_seen cells.old) block }
+    ensures stores { cells.new.stores ≡ cells.old.stores }
+    ensures objects { cells.new.objects ≡ cells.old.objects }
+    ensures ledger { cells.new.ledger ≡ cells.old.ledger }
+    ensures block { ContainsKey cells.new.blocks block }
+{
+    swap_top(&mut cells.blocks[block], item)
 }
 
 /// Lets an item fall in a block.

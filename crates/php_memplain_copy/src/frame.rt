@@ -1,5 +1,5 @@
 // An array that is being copied.
-ghost use Rattle.std.specs.Prelude.{◌≡◌, [], ◌∷◌, length, IfSome, IfNone, IfOk};
+ghost use Rattle.std.specs.Prelude.{◌≡◌, ◌≤◌, [], ◌∷◌, length, IfSome, IfNone, IfOk};
 ghost use Rattle.php_entries.specs.Listing.{count_of};
 ghost use Rattle.php_memdef.specs.Contents as model;
 ghost use Rattle.php_memdef.specs.Numbered.{numbered};
@@ -87,7 +87,13 @@ pub fn next_element(stores: &Slab<Store>, root: &Entries<usize>, frame: &mut Fra
     Some(store)
 }
 
-/// The copy of an array, over the copies of all of its elements.
+fn made_so_far(ledger: &Ledger) -> u64
+    ensures { result ≡ ledger.now.made }
+{
+    ledger.made
+}
+
+/// The copy of an array, over the copies of all of its elements, whose entries are counted.
 pub fn finished(
     alloc: Global,
     stores: &Slab<Store>,
@@ -98,7 +104,9 @@ pub fn finished(
 ) -> Result<Content, NoMemory>
     requires { length values.items ≡ count_of (listing_in (stores_seen stores.now) root.now source) }
     ensures copy { IfOk result (λ d. content_seen d ≡ model.array (with_values (listing_in (stores_seen stores.now) root.now source) values.items)) }
+    ensures made { ledger.old.made ≤ ledger.new.made }
 {
+    let _made = made_so_far(ledger);
     let link = Link::new(alloc)?;
     let entries = entries_of(stores, root, source).with_values(values, ledger)?;
     Ok(Content::Array(entries, link))

@@ -1,7 +1,6 @@
-pub mod StraightLemmas
-pub mod OperandLemmas
-pub mod ActLemmas
-pub mod OperatorLemmas
-pub mod WriteLemmas
-pub mod VariableLemmas
-pub mod JoinLemmas
+pub mod RunLemmas
+pub mod LiftLemmas
+pub mod StepLemmas
+pub mod EndingLemmas
+pub mod TickLemmas
+pub mod LoopLemmas

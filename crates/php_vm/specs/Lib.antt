@@ -1,7 +1,3 @@
-pub mod Causes
-pub mod Straight
-pub mod Acting
-pub mod Looks
-pub mod Operands
-pub mod Variables
-pub mod Writing
+pub mod Running
+pub mod Stepping
+pub mod Finishing

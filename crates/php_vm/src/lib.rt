@@ -1,22 +1,12 @@
-// What the actions of the code do to any memory and any sink.
+// The machine over any memory and any sink: it runs the code of a script.
 #![tactic(auto)]
 
-mod comparisons;
-mod compute;
-mod did;
-mod names;
-mod operands;
-mod operators;
-mod output;
-mod places;
-mod stack;
-mod straight;
-mod texts;
+mod state;
+mod step;
+mod steps;
+mod stop;
+mod vm;
 
-pub use did::{Cause, Did};
-pub use names::do_name;
-pub use operators::do_operator;
-pub use output::do_output;
-pub use places::do_place;
-pub use stack::do_stack;
-pub use straight::{drops, sink, trim};
+pub use php_vm_actions::Cause;
+pub use stop::{Ended, Stop};
+pub use vm::Vm;

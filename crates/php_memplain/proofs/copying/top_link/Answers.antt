@@ -1,0 +1,14 @@
+use Rattle.std.proofs.Common.{◌≡◌, sym, ◌∙◌, ap}
+use Rattle.std.specs.Prelude.{Some}
+use Rattle.php_memplain_cells.proofs.SlotLemmas.{no_some}
+use Rattle.php_memplain.proofs.CopyLemmas.{same_item}
+use Rattle.php_memplain.proofs.copying.top_link.Goals as goal
+
+pub unreachable-requires : goal.unreachable-requires
+unreachable-requires c = no_some (c.in_default.ensures ∙ c.requires.1)
+
+pub store_of_link-requires : goal.store_of_link-requires
+store_of_link-requires c = (c.requires.0, same_item (c.in-Some.ensures ∙ c.requires.1))
+
+pub returns : goal.returns
+returns c = sym c.in-Some.ensures ∙ ap Some c.store_of_link.ensures

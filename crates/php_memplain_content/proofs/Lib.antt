@@ -1,0 +1,3 @@
+pub mod TempLemmas
+pub mod ContentLemmas
+pub mod LiveLemmas

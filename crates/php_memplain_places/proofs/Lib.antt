@@ -1,0 +1,4 @@
+pub mod SlotsLemmas
+pub mod StepLemmas
+pub mod SearchLemmas
+pub mod TotalLemmas

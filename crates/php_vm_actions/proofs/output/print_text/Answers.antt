@@ -1,0 +1,18 @@
+use Rattle.std.proofs.Common.{Bool, [], ◌∷◌, refl, subst}
+use Rattle.php_value.specs.declared.scalar.Scalar.TheVariants as scalar
+use Rattle.std.specs.Prelude.{pos}
+use Rattle.php_memdef.specs.Operations as op
+use Rattle.php_vm_actions.specs.Acting.{frame_of}
+use Rattle.php_vm_actions.specs.Writing.{PutAll, text_printed}
+use Rattle.php_vm_actions.proofs.WriteLemmas.{writes_row, fails_row}
+use Rattle.php_vm_actions.proofs.output.print_text.Goals as goal
+
+pub returns-then-put-clause-done : goal.returns-then-put-clause-done
+returns-then-put-clause-done g c =
+    writes_row (g.M.Memory.means c.args.memory.now) (g.M.Memory.means c.push.new.self) (g.K.Sink.written c.args.out.now) (g.K.Sink.written c.put.new.out) c.args.frame.now.block.0 c.args.text.now (text_printed c.args.text.now (frame_of c.args.frame.now)) (op.drop_top c.args.frame.now.block.0 ∷ op.push c.args.frame.now.block.0 (scalar.Int (pos 1)) ∷ []) (tt, (tt, tt)) (λ d. refl)
+    (subst (λ (t : Bool). PutAll t (g.K.Sink.written c.args.out.now) (g.K.Sink.written c.put.new.out) c.args.text.now) c.if-put.true c.put.ensures.written) (λ m h. c.push.ensures.effect _ (c.drop_top.ensures.effect m h))
+
+pub returns-clause-done : goal.returns-clause-done
+returns-clause-done g c =
+    fails_row (g.M.Memory.means c.args.memory.now) (g.M.Memory.means c.args.memory.now) (g.K.Sink.written c.args.out.now) (g.K.Sink.written c.put.new.out) c.args.frame.now.block.0 c.args.text.now (text_printed c.args.text.now (frame_of c.args.frame.now)) (op.drop_top c.args.frame.now.block.0 ∷ op.push c.args.frame.now.block.0 (scalar.Int (pos 1)) ∷ []) (tt, (tt, tt)) (λ d. refl)
+    (subst (λ (t : Bool). PutAll t (g.K.Sink.written c.args.out.now) (g.K.Sink.written c.put.new.out) c.args.text.now) c.if-put.false c.put.ensures.written)
