@@ -1,13 +1,13 @@
 -- What files come to, held against what is owed.
-use Rattle.std.proofs.Common.{◌≡◌, ◌≢◌, ◌⊎◌, inl, inr, Err, ℕ, ◌+◌, ◌<◌, ◌≤◌, List, length, take, min, Option, Some, None, refl, sym, ap, ◌∙◌, arith}
+use Rattle.std.proofs.Common.{◌≡◌, ◌≢◌, ℕ, ◌+◌, ◌<◌, ◌≤◌, List, length, take, min, Option, Some, None, refl, sym, ap, ◌∙◌, arith}
 use Rattle.std.proofs.lemmas.List.{take_all, length-take}
 use Rattle.php_base.specs.Files.{File, file_of, TellsNone}
 use Rattle.php_base.specs.Streams.{Stream, AllWritten}
-use Rattle.php_lex.specs.declared.fail.LexFail.{LexFail}
-use Rattle.php_lex.specs.declared.fail.LexFail.TheVariants as fail
-use Rattle.php_lex.specs.Reading.{tokens, Lexes}
+use Rattle.php_front.specs.Read.{IsRefused}
+use Rattle.php_front.specs.declared.fail.ReadFail.{ReadFail}
+use Rattle.php_front.specs.declared.fail.ReadFail.TheVariants as fail
 use Rattle.php_run.specs.declared.limits.TheConstants.{MOST_BYTES}
-use Rattle.php_run.specs.Answer.{Answer, no_memory, no_tokens}
+use Rattle.php_run.specs.Answer.{Answer, unread}
 use Rattle.php_run.specs.Called.{CanEnd, finished, out_failed, starved, IsHeld}
 use Rattle.php_run.specs.Owed.{IsOwed, faulty, read}
 use Rattle.php_run.specs.Words.{Request}
@@ -52,24 +52,11 @@ held_bytes (Some files) request given most short told there = by_look_up (file_o
   by_look_up None same = absurd (there (files, refl, same))
   by_look_up (Some bytes) same = (bytes, told files bytes refl same, sym same)
 
--- a fault of the lexer is want of memory, or it isn't
-memory_or_not : (fault : LexFail) → (fault ≡ fail.NoMemory) ⊎ (fault ≢ fail.NoMemory)
-memory_or_not (fail.Unclosed line) = inr (λ h. cc)
-memory_or_not (fail.BadByte line) = inr (λ h. cc)
-memory_or_not (fail.FloatLiteral line) = inr (λ h. cc)
-memory_or_not (fail.IntTooLarge line) = inr (λ h. cc)
-memory_or_not (fail.BadEscape line) = inr (λ h. cc)
-memory_or_not fail.NoMemory = inl refl
-
--- the lexer gave no tokens
-pub ends_by_fault : (request : Request) (file : List ℕ) (fault : LexFail) (out : Stream) (a : Answer) →
-    length file ≤ MOST_BYTES → Lexes (Err fault) (tokens file) → AllWritten a.output out out →
-    (fault ≡ fail.NoMemory → a ≡ no_memory) → (fault ≢ fail.NoMemory → a ≡ no_tokens fault) →
+-- the file wasn't read as a legal script
+pub ends_unread : (request : Request) (file : List ℕ) (cause : ReadFail) (out : Stream) (a : Answer) →
+    length file ≤ MOST_BYTES → (cause ≢ fail.NoMemory → IsRefused file cause) → AllWritten a.output out out → a ≡ unread cause →
     CanEnd (IsOwed (Some request) (Some file)) out out a
-ends_by_fault request file fault out a short lexed nothing on_memory on_fault = elim (memory_or_not fault) [
-  | inl memory ↦ starved (on_memory memory) refl
-  | inr other ↦ elim lexed [
-    | inl memory ↦ absurd (other memory)
-    | inr told ↦ finished (read short (faulty fault told other (on_fault other))) nothing
-  ]
-]
+ends_unread request file (fail.Lex fault) out a short refused nothing is = finished (read short (faulty (fail.Lex fault) (refused (λ h. cc)) is)) nothing
+ends_unread request file (fail.Parse failure) out a short refused nothing is = finished (read short (faulty (fail.Parse failure) (refused (λ h. cc)) is)) nothing
+ends_unread request file (fail.Name failure) out a short refused nothing is = finished (read short (faulty (fail.Name failure) (refused (λ h. cc)) is)) nothing
+ends_unread request file fail.NoMemory out a short refused nothing is = starved is refl

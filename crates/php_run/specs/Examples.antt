@@ -2,24 +2,39 @@
 use Rattle.std.specs.Prelude.{◌≡◌, refl, [], ◌∷◌, ◌++◌, codes, decimal, Some, None}
 use Rattle.php_value.specs.declared.fault.Fault.TheVariants as fault
 use Rattle.php_lex.specs.declared.fail.LexFail.TheVariants as fail
-use Rattle.php_run.specs.Answer.{no_tokens}
+use Rattle.php_reader.specs.declared.fail.ParseFail.TheVariants as parse_fail
+use Rattle.php_names.specs.declared.fail.NameFail.TheVariants as name_fail
+use Rattle.php_run.specs.Answer.{refused}
 use Rattle.php_run.specs.Status.{status_of}
-use Rattle.php_run.specs.Words.{shape}
+use Rattle.php_run.specs.Texts.{counted_text}
+use Rattle.php_run.specs.Words.{shape, running, checking}
 use Rattle.php_run.specs.declared.limits.TheConstants.{MOST_BYTES}
 use Rattle.php_run.specs.declared.report.Kind.TheVariants as kind
 use Rattle.php_run.specs.declared.report.Refusal.TheVariants as refusal
 
-bad_escape : (no_tokens (fail.BadEscape 3)).error ≡ codes "phprun: refused: BadEscape on line " ++ decimal 3 ++ codes "\n"
+bad_escape : (refused (refusal.Lex (fail.BadEscape 3))).error ≡ codes "phprun: refused: BadEscape on line " ++ decimal 3 ++ codes "\n"
 bad_escape = refl
 
-unclosed : (no_tokens (fail.Unclosed 12)).error ≡ codes "phprun: refused: Unclosed on line " ++ decimal 12 ++ codes "\n"
+unclosed : (refused (refusal.Lex (fail.Unclosed 12))).error ≡ codes "phprun: refused: Unclosed on line " ++ decimal 12 ++ codes "\n"
 unclosed = refl
+
+syntax : (refused (refusal.Parse (parse_fail.Syntax 7 12))).error ≡ codes "phprun: refused: Syntax on line " ++ decimal 12 ++ codes "\n"
+syntax = refl
+
+too_deep : (refused (refusal.Parse (parse_fail.TooDeep 7 12))).error ≡ codes "phprun: refused: TooDeep on line " ++ decimal 12 ++ codes "\n"
+too_deep = refl
+
+duplicate : (refused (refusal.Name (name_fail.Duplicate 12 7))).error ≡ codes "phprun: refused: Duplicate on line " ++ decimal 12 ++ codes "\n"
+duplicate = refl
+
+counted : counted_text 2 0 ≡ codes "ok: " ++ decimal 2 ++ codes " functions, " ++ decimal 0 ++ codes " classes\n"
+counted = refl
 
 -- the number of ticks is missing
 no_number : shape (codes "run" ∷ codes "--steps" ∷ []) ≡ None
 no_number = refl
 
-no_ticks : shape (codes "run" ∷ codes "--steps" ∷ codes "0" ∷ codes "a.php" ∷ []) ≡ Some (record { file = codes "a.php"; allowance = 0 })
+no_ticks : shape (codes "run" ∷ codes "--steps" ∷ codes "0" ∷ codes "a.php" ∷ []) ≡ Some (record { file = codes "a.php"; task = running 0 })
 no_ticks = refl
 
 below_zero : shape (codes "run" ∷ codes "--steps" ∷ codes "-1" ∷ codes "a.php" ∷ []) ≡ None
@@ -28,8 +43,17 @@ below_zero = refl
 too_many_ticks : shape (codes "run" ∷ codes "--steps" ∷ codes "18446744073709551616" ∷ codes "a.php" ∷ []) ≡ None
 too_many_ticks = refl
 
-no_option : shape (codes "run" ∷ codes "a.php" ∷ []) ≡ Some (record { file = codes "a.php"; allowance = 1000000000 })
+no_option : shape (codes "run" ∷ codes "a.php" ∷ []) ≡ Some (record { file = codes "a.php"; task = running 1000000000 })
 no_option = refl
+
+check_file : shape (codes "check" ∷ codes "a.php" ∷ []) ≡ Some (record { file = codes "a.php"; task = checking })
+check_file = refl
+
+check_two_files : shape (codes "check" ∷ codes "a.php" ∷ codes "b.php" ∷ []) ≡ None
+check_two_files = refl
+
+check_with_steps : shape (codes "check" ∷ codes "--steps" ∷ codes "1" ∷ codes "a.php" ∷ []) ≡ None
+check_with_steps = refl
 
 -- a file of one megabyte is not too long
 a_megabyte : MOST_BYTES ≡ 1048576

@@ -12,4 +12,6 @@ pub mod Asked
 pub mod Message
 pub mod Shown
 pub mod Today
+pub mod Checked
+pub mod Counting
 pub mod Examples

@@ -1,19 +1,26 @@
 -- What is owed to the words of a command line.
-use Rattle.std.specs.Prelude.{◌≡◌, ◌≢◌, ℕ, ◌<◌, ◌≤◌, List, length, Option, Some, None, Ok, Err}
-use Rattle.php_lex.specs.declared.fail.LexFail.{LexFail}
-use Rattle.php_lex.specs.declared.fail.LexFail.TheVariants as fail
-use Rattle.php_lex.specs.Reading.{tokens}
+use Rattle.std.specs.Prelude.{◌≡◌, ℕ, ◌<◌, ◌≤◌, List, length, Option, Some, None}
 use Rattle.php_token.specs.Token.{Token}
-use Rattle.php_run.specs.Words.{Request}
-use Rattle.php_run.specs.Answer.{Answer, no_file, no_tokens, too_long, usage}
-use Rattle.php_run.specs.Today.{IsOwedByTokens}
+use Rattle.php_ast.specs.expression.View.{Note}
+use Rattle.php_ast.specs.declaration.Tree.{Script}
+use Rattle.php_front.specs.Read.{IsRefused, IsScript}
+use Rattle.php_front.specs.declared.fail.ReadFail.{ReadFail}
+use Rattle.php_run.specs.Words.{Request, Task, running, checking}
+use Rattle.php_run.specs.Answer.{Answer, no_file, too_long, unread, usage}
+use Rattle.php_run.specs.Checked.{checked}
+use Rattle.php_run.specs.Today.{IsOwedByScript}
 use Rattle.php_run.specs.declared.limits.TheConstants.{MOST_BYTES}
 
--- What is owed where the file has these bytes and isn't too long: the refusal for the first fault of the lexer; else what is
--- owed to the tokens.
+-- what is owed where the file is a legal script with these tokens
+abbrev pub IsOwedTo : Task → List Token → Script Note → Answer → Type 0
+IsOwedTo (running allowance) found script owed = IsOwedByScript found script allowance owed
+IsOwedTo checking found script owed = owed ≡ checked script
+
+-- What is owed where the file has these bytes and isn't too long: the refusal for the first cause why it is no legal script;
+-- else what is owed to the script.
 pub data IsOwedFor (request : Request) (bytes : List ℕ) (owed : Answer) : Type 0 where
-  faulty : (fault : LexFail) → tokens bytes ≡ Err fault → fault ≢ fail.NoMemory → owed ≡ no_tokens fault → IsOwedFor request bytes owed
-  lexed : (found : List Token) → tokens bytes ≡ Ok found → IsOwedByTokens found request.allowance owed → IsOwedFor request bytes owed
+  faulty : (cause : ReadFail) → IsRefused bytes cause → owed ≡ unread cause → IsOwedFor request bytes owed
+  legal : (found : List Token) (script : Script Note) → IsScript bytes found script → IsOwedTo request.task found script owed → IsOwedFor request bytes owed
 
 -- what is owed where a file of the name holds these bytes
 pub data IsOwedOf (request : Request) (bytes : List ℕ) (owed : Answer) : Type 0 where

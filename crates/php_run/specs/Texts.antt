@@ -1,8 +1,14 @@
--- The error texts of the answers.
+-- The texts of the answers.
 use Rattle.std.specs.Prelude.{ℕ, List, ◌++◌, codes}
 use Rattle.std.specs.Fmt.{decimal}
 use Rattle.php_lex.specs.declared.fail.LexFail.{LexFail}
 use Rattle.php_lex.specs.declared.fail.LexFail.TheVariants as fail
+use Rattle.php_reader.specs.declared.fail.ParseFail.{ParseFail}
+use Rattle.php_reader.specs.declared.fail.ParseFail.TheVariants as parse_fail
+use Rattle.php_names.specs.declared.fail.NameFail.{NameFail}
+use Rattle.php_names.specs.declared.fail.NameFail.TheVariants as name_fail
+use Rattle.php_run.specs.declared.report.Refusal.{Refusal}
+use Rattle.php_run.specs.declared.report.Refusal.TheVariants as refusal
 
 abbrev pub usage_text : List ℕ
 usage_text = codes "usage: phprun run [--steps N] FILE ARG.. | check FILE | demo N\n"
@@ -30,11 +36,58 @@ fault_line (fail.IntTooLarge line) = line
 fault_line (fail.BadEscape line) = line
 fault_line fail.NoMemory = 0
 
-abbrev pub no_tokens_text : LexFail → List ℕ
-no_tokens_text fault = codes "phprun: refused: " ++ fault_name fault ++ codes " on line " ++ decimal (fault_line fault) ++ codes "\n"
+-- the name of a refusal by the parser, and its line
+abbrev pub parse_name : ParseFail → List ℕ
+parse_name (parse_fail.Syntax at line) = codes "Syntax"
+parse_name (parse_fail.TooDeep at line) = codes "TooDeep"
+parse_name parse_fail.NoMemory = codes "NoMemory"
 
-abbrev pub not_yet_text : List ℕ
-not_yet_text = codes "phprun: refused: NotYet on line 1\n"
+abbrev pub parse_line : ParseFail → ℕ
+parse_line (parse_fail.Syntax at line) = line
+parse_line (parse_fail.TooDeep at line) = line
+parse_line parse_fail.NoMemory = 0
+
+-- the name of a fault of a script that the grammar lets pass, and its line
+abbrev pub illegal_name : NameFail → List ℕ
+illegal_name (name_fail.NotAPlace line at) = codes "NotAPlace"
+illegal_name (name_fail.BadBreak line at) = codes "BadBreak"
+illegal_name (name_fail.JumpFromFinally line at) = codes "JumpFromFinally"
+illegal_name (name_fail.Duplicate line at) = codes "Duplicate"
+illegal_name (name_fail.BadConstant line at) = codes "BadConstant"
+illegal_name (name_fail.BadList line at) = codes "BadList"
+illegal_name (name_fail.BadUse line at) = codes "BadUse"
+illegal_name (name_fail.TooManyNames line at) = codes "TooManyNames"
+illegal_name name_fail.NoMemory = codes "NoMemory"
+
+abbrev pub illegal_line : NameFail → ℕ
+illegal_line (name_fail.NotAPlace line at) = line
+illegal_line (name_fail.BadBreak line at) = line
+illegal_line (name_fail.JumpFromFinally line at) = line
+illegal_line (name_fail.Duplicate line at) = line
+illegal_line (name_fail.BadConstant line at) = line
+illegal_line (name_fail.BadList line at) = line
+illegal_line (name_fail.BadUse line at) = line
+illegal_line (name_fail.TooManyNames line at) = line
+illegal_line name_fail.NoMemory = 0
+
+abbrev pub refusal_name : Refusal → List ℕ
+refusal_name (refusal.Lex fault) = fault_name fault
+refusal_name (refusal.Parse failure) = parse_name failure
+refusal_name (refusal.Name failure) = illegal_name failure
+refusal_name (refusal.NotYet line) = codes "NotYet"
+
+abbrev pub refusal_line : Refusal → ℕ
+refusal_line (refusal.Lex fault) = fault_line fault
+refusal_line (refusal.Parse failure) = parse_line failure
+refusal_line (refusal.Name failure) = illegal_line failure
+refusal_line (refusal.NotYet line) = line
+
+abbrev pub refused_text : Refusal → List ℕ
+refused_text cause = codes "phprun: refused: " ++ refusal_name cause ++ codes " on line " ++ decimal (refusal_line cause) ++ codes "\n"
+
+-- how many functions and classes a script declares; written to the output
+abbrev pub counted_text : ℕ → ℕ → List ℕ
+counted_text functions classes = codes "ok: " ++ decimal functions ++ codes " functions, " ++ decimal classes ++ codes " classes\n"
 
 abbrev pub overflow_text : ℕ → List ℕ
 overflow_text line = codes "phprun: fatal: integer overflow on line " ++ decimal line ++ codes "\n"

@@ -1,10 +1,12 @@
--- The language that runs today: which tokens are scripts of it, what a run of one comes to, and what is owed to the tokens of
--- a file. This file alone names that language; a machine for the whole language takes its place.
-use Rattle.std.specs.Prelude.{◌≡◌, ℕ, Bool, true, ◌&&◌, not, nat_le, List, [], length, codes, map, replicate, Option, Some, None, refl}
+-- The language that runs today: which tokens are scripts of it, what a run of one comes to, and what is owed to a legal
+-- script. This file alone names that language; a machine for the whole language takes its place.
+use Rattle.std.specs.Prelude.{◌≡◌, ℕ, Bool, true, ◌&&◌, nat_le, List, [], length, map, replicate, Option, Some, None, refl}
 use Rattle.std.specs.List.{list_all}
-use Rattle.std.specs.Str.{bytes_eq}
 use Rattle.php_value.specs.declared.fault.Fault.TheVariants as fault
 use Rattle.php_token.specs.Token as whole
+use Rattle.php_ast.specs.expression.View.{Note}
+use Rattle.php_ast.specs.declaration.Tree as tree
+use Rattle.php_first_forms.specs.Forms.{is_allowed, first_left_out}
 use Rattle.php_first_tree.specs.Expression.{Statement, statement_view}
 use Rattle.php_first_tree.specs.declared.Script.{Script}
 use Rattle.php_first_tokens.specs.declared.token.Token.{Token}
@@ -14,19 +16,14 @@ use Rattle.php_first_run.specs.Running.{texts_of, Outcome, Ending, completed, ov
 use Rattle.php_first_run.specs.declared.value.Value.TheVariants.{Null}
 use Rattle.php_first_run.specs.declared.walking.Stop.{Stop}
 use Rattle.php_first_run.specs.declared.walking.Stop.TheVariants.{Done, Overflow, Cut, SinkFault}
-use Rattle.php_run.specs.Answer.{Answer, without_run, write_fault}
+use Rattle.php_run.specs.Answer.{Answer, not_yet, write_fault}
 use Rattle.php_run.specs.Shown.{shown}
-use Rattle.php_run.specs.Texts.{cut_off_text, not_yet_text, overflow_text}
+use Rattle.php_run.specs.Texts.{cut_off_text, overflow_text}
 use Rattle.php_run.specs.declared.answer.Answer as program
 use Rattle.php_run.specs.declared.report.Kind.TheVariants as kind
-use Rattle.php_run.specs.declared.report.Refusal.TheVariants as refusal
 use Rattle.php_run.specs.declared.today.TheConstants.{MOST_VARIABLES}
 
 -- ---- which tokens are a script
-
--- The names that no variable may have yet: `$argv`, `$argc` and `$this` have a meaning of their own.
-abbrev pub is_allowed : List ℕ → Bool
-is_allowed name = not (bytes_eq name (codes "argv")) && not (bytes_eq name (codes "argc")) && not (bytes_eq name (codes "this"))
 
 -- the names are few enough, and each is one that a variable may have
 abbrev pub permits : List (List ℕ) → Bool
@@ -70,17 +67,18 @@ IsAfter SinkFault ticks a = (output : List ℕ) → shown a output ≡ write_fau
 
 -- ---- what is owed
 
--- the file is no script of those that run today
-abbrev pub not_yet : Answer
-not_yet = without_run (kind.Refused (refusal.NotYet 1)) not_yet_text
+-- the line of the first token of the first form that doesn't run yet, or 1 where there is none
+abbrev pub line_of : Option Note → ℕ
+line_of None = 1
+line_of (Some at) = at.line
 
--- What is owed to the tokens of a file, with so many ticks allowed: the run of the script that they spell, or the refusal of
--- what can't be run yet.
-pub data IsOwedByTokens (found : List whole.Token) (allowance : ℕ) (owed : Answer) : Type 0 where
+-- What is owed to a legal script with these tokens, with so many ticks allowed: its run, where the tokens are a script of the
+-- language that runs today; else the refusal at the first form that doesn't run yet.
+pub data IsOwedByScript (found : List whole.Token) (script : tree.Script Note) (allowance : ℕ) (owed : Answer) : Type 0 where
   runs : (variables : ℕ) (statements : List Statement) → IsScript found variables statements →
-      owed ≡ answer_of (run_of (texts_of found) allowance variables statements) → IsOwedByTokens found allowance owed
-  refused : ((variables : ℕ) (statements : List Statement) → IsScript found variables statements → ⊥) → owed ≡ not_yet →
-      IsOwedByTokens found allowance owed
+      owed ≡ answer_of (run_of (texts_of found) allowance variables statements) → IsOwedByScript found script allowance owed
+  refused : ((variables : ℕ) (statements : List Statement) → IsScript found variables statements → ⊥) →
+      owed ≡ not_yet (line_of (first_left_out script)) → IsOwedByScript found script allowance owed
 
 -- a file with no statements
 nothing_to_run : answer_of (run_of [] 0 0 []) ≡ record { kind = kind.Done; ticks = 0; output = []; error = [] }

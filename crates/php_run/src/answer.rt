@@ -1,14 +1,17 @@
-ghost use Rattle.std.specs.Prelude.{◌≡◌, ◌≢◌, ◌++◌, List, ℕ, [], codes, decimal};
-ghost use Rattle.php_lex.specs.declared.fail.LexFail.TheVariants as fail;
+ghost use Rattle.std.specs.Prelude.{◌≡◌, ◌++◌, List, ℕ, [], codes, decimal};
 ghost use Rattle.php_run.specs.declared.report.Refusal.TheVariants as refusal;
-ghost use Rattle.php_run.specs.Answer.{no_file, no_memory, no_tokens, shelf_fault, too_long, usage, without_run};
+ghost use Rattle.php_run.specs.Answer.{no_file, no_memory, shelf_fault, too_long, usage, without_run};
+ghost use Rattle.php_run.specs.Answer as answers;
 ghost use Rattle.php_run.specs.Message.{bytes_of};
 ghost use Rattle.php_run.specs.Shown.{shown};
 ghost use Rattle.php_run.specs.Texts as texts;
 
 use crate::message::{Message, Middle};
 use crate::report::{Kind, Refusal};
+use php_front::ReadFail;
 use php_lex::LexFail;
+use php_names::NameFail;
+use php_reader::ParseFail;
 
 /// What the call answers, before the error text is written.
 #[derive(Clone, Copy, Debug)]
@@ -108,28 +111,83 @@ pub(crate) fn file_too_long(file: &str) -> Answer<'_>
     idle(Kind::TooLong, message)
 }
 
-fn not_lexed(fault: LexFail, before: &'static str, line: u32) -> Answer<'static>
-    ensures { shown result [] ≡ without_run (Kind.Refused (refusal.Lex fault)) (before.now ++ decimal line ++ codes "\n") }
+/// The answer where the file is refused for this cause, by a text up to the line of it.
+fn refused(cause: Refusal, before: &'static str, line: u32) -> Answer<'static>
+    ensures { shown result [] ≡ without_run (Kind.Refused cause) (before.now ++ decimal line ++ codes "\n") }
 {
-    idle(Kind::Refused(Refusal::Lex(fault)), on_line(before, line))
+    idle(Kind::Refused(cause), on_line(before, line))
 }
 
-/// The answer where the file has no tokens, for this fault.
-pub(crate) fn after_fault(fault: LexFail) -> Answer<'static>
-    ensures starved { fault ≡ fail.NoMemory → shown result [] ≡ no_memory }
-    ensures refused { fault ≢ fail.NoMemory → shown result [] ≡ no_tokens fault }
+pub(crate) fn not_yet(line: u32) -> Answer<'static>
+    ensures { shown result [] ≡ answers.not_yet line }
 {
+    refused(
+        Refusal::NotYet(line),
+        "phprun: refused: NotYet on line ",
+        line,
+    )
+}
+
+fn not_lexed(fault: LexFail) -> Answer<'static>
+    ensures { shown result [] ≡ answers.refused (refusal.Lex fault) }
+{
+    let cause = Refusal::Lex(fault);
     match fault {
-        LexFail::Unclosed(line) => not_lexed(fault, "phprun: refused: Unclosed on line ", line),
-        LexFail::BadByte(line) => not_lexed(fault, "phprun: refused: BadByte on line ", line),
+        LexFail::Unclosed(line) => refused(cause, "phprun: refused: Unclosed on line ", line),
+        LexFail::BadByte(line) => refused(cause, "phprun: refused: BadByte on line ", line),
         LexFail::FloatLiteral(line) => {
-            not_lexed(fault, "phprun: refused: FloatLiteral on line ", line)
+            refused(cause, "phprun: refused: FloatLiteral on line ", line)
         }
-        LexFail::IntTooLarge(line) => {
-            not_lexed(fault, "phprun: refused: IntTooLarge on line ", line)
+        LexFail::IntTooLarge(line) => refused(cause, "phprun: refused: IntTooLarge on line ", line),
+        LexFail::BadEscape(line) => refused(cause, "phprun: refused: BadEscape on line ", line),
+        LexFail::NoMemory => refused(cause, "phprun: refused: NoMemory on line ", 0),
+    }
+}
+
+fn not_parsed(failure: ParseFail) -> Answer<'static>
+    ensures { shown result [] ≡ answers.refused (refusal.Parse failure) }
+{
+    let cause = Refusal::Parse(failure);
+    match failure {
+        ParseFail::Syntax(_, line) => refused(cause, "phprun: refused: Syntax on line ", line),
+        ParseFail::TooDeep(_, line) => refused(cause, "phprun: refused: TooDeep on line ", line),
+        ParseFail::NoMemory => refused(cause, "phprun: refused: NoMemory on line ", 0),
+    }
+}
+
+fn not_legal(failure: NameFail) -> Answer<'static>
+    ensures { shown result [] ≡ answers.refused (refusal.Name failure) }
+{
+    let cause = Refusal::Name(failure);
+    match failure {
+        NameFail::NotAPlace(line, _) => refused(cause, "phprun: refused: NotAPlace on line ", line),
+        NameFail::BadBreak(line, _) => refused(cause, "phprun: refused: BadBreak on line ", line),
+        NameFail::JumpFromFinally(line, _) => {
+            refused(cause, "phprun: refused: JumpFromFinally on line ", line)
         }
-        LexFail::BadEscape(line) => not_lexed(fault, "phprun: refused: BadEscape on line ", line),
-        LexFail::NoMemory => starved(),
+        NameFail::Duplicate(line, _) => refused(cause, "phprun: refused: Duplicate on line ", line),
+        NameFail::BadConstant(line, _) => {
+            refused(cause, "phprun: refused: BadConstant on line ", line)
+        }
+        NameFail::BadList(line, _) => refused(cause, "phprun: refused: BadList on line ", line),
+        NameFail::BadUse(line, _) => refused(cause, "phprun: refused: BadUse on line ", line),
+        NameFail::TooManyNames(line, _) => {
+            refused(cause, "phprun: refused: TooManyNames on line ", line)
+        }
+        NameFail::NoMemory => refused(cause, "phprun: refused: NoMemory on line ", 0),
+    }
+}
+
+/// The answer where the file isn't read as a legal script. The three calls that read have their want of memory in a cause of
+/// its own, so it is never told with a line.
+pub(crate) fn unread(cause: ReadFail) -> Answer<'static>
+    ensures { shown result [] ≡ answers.unread cause }
+{
+    match cause {
+        ReadFail::Lex(fault) => not_lexed(fault),
+        ReadFail::Parse(failure) => not_parsed(failure),
+        ReadFail::Name(failure) => not_legal(failure),
+        ReadFail::NoMemory => starved(),
     }
 }
 

@@ -1,4 +1,4 @@
-ghost use Rattle.std.specs.Prelude.{◌≡◌, ◌++◌, List, OnOk, OnErr};
+ghost use Rattle.std.specs.Prelude.{◌≡◌, ◌++◌, List, OnOk, OnErr, decimal};
 ghost use Rattle.php_base.specs.Counts.{Rose};
 ghost use Rattle.php_base.specs.Written.{GrewBy, GrewByPart};
 ghost use Rattle.php_run.specs.Message.{bytes_of};
@@ -45,6 +45,27 @@ fn put_between<E: Sink>(
         Ok(()) => Ok(()),
         Err(failed) => Err(failed),
     }
+}
+
+/// Writes a number in decimal digits, between two texts. It takes no memory.
+pub(crate) fn put_number<E: Sink>(
+    sink: &mut E,
+    before: &str,
+    number: usize,
+    after: &str,
+) -> Result<(), Failed>
+    ensures ok { OnOk result (GrewBy (E.written sink.old) (E.written sink.new) (before.now ++ decimal number ++ after.now)) }
+    ensures no_fault { OnOk result (E.faults sink.new ≡ E.faults sink.old) }
+    ensures part { OnErr result (GrewByPart (E.written sink.old) (E.written sink.new) (before.now ++ decimal number ++ after.now)) }
+    ensures fault { OnErr result (Rose (E.faults sink.old) (E.faults sink.new)) }
+{
+    let mut buffer = Buffer::new();
+    put_between(
+        sink,
+        before.as_bytes(),
+        buffer.format(number).as_bytes(),
+        after.as_bytes(),
+    )
 }
 
 /// Writes the message. It takes no memory.

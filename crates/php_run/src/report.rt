@@ -2,12 +2,14 @@ ghost use Rattle.std.specs.Prelude.{◌≡◌};
 ghost use Rattle.php_run.specs.Reported.{report_of};
 
 use php_lex::LexFail;
+use php_names::NameFail;
+use php_reader::ParseFail;
 use php_value::Fault;
 
 /// How a call ended.
 #[derive(Clone, Copy, Debug, PartialEq, Eq)]
 pub enum Kind {
-    /// The script ran to its end.
+    /// The script ran to its end, or was checked.
     Done,
     /// A fault ended the run.
     Fatal(Fault),
@@ -29,12 +31,16 @@ pub enum Kind {
     NoMemory,
 }
 
-/// Why a file is not run.
+/// Why a file is not run or checked: the first of these causes that is there. None is want of memory.
 #[derive(Clone, Copy, Debug, PartialEq, Eq)]
 pub enum Refusal {
-    /// The file has no tokens: its first fault, which is never want of memory.
+    /// The file has no tokens: its first fault.
     Lex(LexFail),
-    /// The file has a form that can't be run yet. The number is a line.
+    /// The tokens spell no script, or one that is nested too deep: the first token at which that shows.
+    Parse(ParseFail),
+    /// The script isn't legal: its first fault.
+    Name(NameFail),
+    /// The script is legal, and has a form that can't be run, or counted, yet. The number is a line.
     NotYet(u32),
 }
 

@@ -3,24 +3,37 @@ ghost use Rattle.php_base.specs.Streams.{stream_of};
 ghost use Rattle.php_run.specs.Asked.{asked};
 ghost use Rattle.php_run.specs.Called.{Called, CanEnd};
 ghost use Rattle.php_run.specs.Headline.{Answers};
-ghost use Rattle.php_run.specs.Owed.{IsOwed};
+ghost use Rattle.php_ast.specs.declaration.View.{script_view};
+ghost use Rattle.php_run.specs.Owed.{IsOwed, IsOwedTo};
 ghost use Rattle.php_run.specs.Reported.{IsReported, keeps_kind};
-ghost use Rattle.php_run.specs.Shown.{shown, wanted};
+ghost use Rattle.php_run.specs.Shown.{shown, task_wanted, wanted};
 ghost use Rattle.php_run.specs.Words.{shape};
 
-use crate::answer::{
-    Answer, after_fault, file_missing, file_too_long, no_use, shelf_failed, starved,
-};
+use crate::answer::{Answer, file_missing, file_too_long, no_use, shelf_failed, starved, unread};
+use crate::check::answer_check;
 use crate::limits::MOST_BYTES;
 use crate::message::put_message;
 use crate::report::{Kind, Report, reported};
-use crate::today::answer_tokens;
-use crate::words::{Request, requested};
+use crate::today::answer_script;
+use crate::words::{Request, Task, requested};
 use php_base::{Shelf, ShelfFail, Sink};
-use php_lex::lex;
+use php_front::{Read, read_script};
 use std::alloc::Global;
 
-/// The tokens come first: a fault of the lexer is the answer, whatever stands before it.
+/// What is to be done with a legal script is done.
+fn answer_read<O: Sink>(alloc: Global, task: Task, read: &Read, out: &mut O) -> Answer<'static>
+    ensures { (output : List ℕ) × CanEnd (IsOwedTo (task_wanted task) read.now.tokens (script_view read.now.script))
+        (stream_of O.written O.faults out.old) (stream_of O.written O.faults out.new) (shown result output) }
+{
+    match task {
+        Task::Run(allowance) => {
+            answer_script(alloc, &read.tokens, read.script.script(), allowance, out)
+        }
+        Task::Check => answer_check(read.script.script(), out),
+    }
+}
+
+/// The file is read whole before anything runs: a cause why it is no legal script is the answer, whatever stands before it.
 fn answer_bytes<'a, O: Sink>(
     alloc: Global,
     request: &Request<'a>,
@@ -34,9 +47,9 @@ fn answer_bytes<'a, O: Sink>(
     if bytes.len() > MOST_BYTES {
         return file_too_long(request.file);
     }
-    match lex(alloc, bytes) {
-        Ok(tokens) => answer_tokens(alloc, &tokens, request.allowance, out),
-        Err(fault) => after_fault(fault),
+    match read_script(alloc, bytes) {
+        Ok(read) => answer_read(alloc, request.task, &read, out),
+        Err(cause) => unread(cause),
     }
 }
 
@@ -110,13 +123,15 @@ fn report_answer<E: Sink>(answer: &Answer, err: &mut E) -> Report
     }
 }
 
-/// Runs the command that the words ask for: fetches the file from the shelf, cuts it into tokens, reads
-/// the script that they are, runs it with its output on `out`, and writes the error text of the ending,
-/// if it has one, to `err`.
+/// Runs the command that the words ask for: fetches the file from the shelf, reads the legal script that it is, runs it with
+/// its output on `out`, or counts what it declares and writes that to `out`, and writes the error text of the ending, if it
+/// has one, to `err`.
 ///
 /// The words are those after the program's name. Whatever they are, the call returns a report. A file
-/// that is not too long is refused for the first fault of the lexer (`Refusal::Lex`), where it has one;
-/// else as `Refusal::NotYet`, where its tokens are no script of the language that runs today.
+/// that is not too long is refused for the first fault of the lexer (`Refusal::Lex`), where it has one; for the first token that
+/// the parser refuses (`Refusal::Parse`); for the first fault of a script that the grammar lets pass (`Refusal::Name`); else
+/// as `Refusal::NotYet`, where its tokens are no script of the language that runs today, or where it is to be checked and
+/// has a class, an interface or a trait.
 pub fn run_php<S: Shelf, O: Sink, E: Sink>(
     alloc: Global,
     words: &Vec<String>,

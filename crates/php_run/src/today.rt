@@ -9,11 +9,17 @@ ghost use Rattle.php_first_run.specs.declared.value.Value.TheVariants.{Null};
 ghost use Rattle.php_first_run.specs.Running.{texts_of};
 ghost use Rattle.php_run.specs.Called.{CanEnd};
 ghost use Rattle.php_run.specs.Shown.{shown};
-ghost use Rattle.php_run.specs.Today.{IsAfter, IsOwedByTokens, IsRead, IsScript, answer_of, is_allowed, not_yet, permits, run_of};
+ghost use Rattle.php_ast.specs.declaration.View.{script_view};
+ghost use Rattle.php_first_forms.specs.Forms as forms;
+ghost use Rattle.php_first_forms.specs.Forms.{is_allowed};
+ghost use Rattle.php_run.specs.Answer.{not_yet};
+ghost use Rattle.php_run.specs.Today.{IsAfter, IsOwedByScript, IsRead, IsScript, answer_of, line_of, permits, run_of};
 
-use crate::answer::{Answer, fixed, idle, on_line, starved, stopped};
-use crate::report::{Kind, Refusal};
+use crate::answer::{Answer, fixed, not_yet, on_line, starved, stopped};
+use crate::report::Kind;
+use php_ast::Script as WholeScript;
 use php_base::{NoMemory, Sink};
+use php_first_forms::{first_left_out, is_allowed_name};
 use php_first_parse::parse;
 use php_first_run::{Stop, Value, Walked, walk};
 use php_first_tokens::narrow;
@@ -24,12 +30,6 @@ use std::alloc::Global;
 
 /// The greatest number of different variables in a script.
 const MOST_VARIABLES: usize = 65_535;
-
-fn is_allowed_name(name: &[u8]) -> bool
-    ensures { result ≡ is_allowed name.now }
-{
-    name != b"argv".as_slice() && name != b"argc".as_slice() && name != b"this".as_slice()
-}
 
 fn are_allowed(names: &[&[u8]]) -> bool
     ensures { result ≡ list_all (λ name. is_allowed name.now) names.now }
@@ -122,28 +122,30 @@ fn run_script<O: Sink>(
     after_run(walked)
 }
 
-fn refused() -> Answer<'static>
-    ensures { shown result [] ≡ not_yet }
+/// The refusal at the first form that doesn't run yet.
+fn refused(script: &WholeScript) -> Answer<'static>
+    ensures { shown result [] ≡ not_yet (line_of (forms.first_left_out (script_view script.now))) }
 {
-    idle(
-        Kind::Refused(Refusal::NotYet(1)),
-        fixed("phprun: refused: NotYet on line 1\n"),
-    )
+    match first_left_out(script) {
+        Some(spot) => not_yet(spot.line),
+        None => not_yet(1),
+    }
 }
 
-/// Reads the script that the tokens of the file are, and runs it.
-pub(crate) fn answer_tokens<O: Sink>(
+/// Runs a legal script, where its tokens are one of the language that runs today.
+pub(crate) fn answer_script<O: Sink>(
     alloc: Global,
     tokens: &Tokens,
+    script: &WholeScript,
     allowance: u64,
     out: &mut O,
 ) -> Answer<'static>
-    ensures { (output : List ℕ) × CanEnd (IsOwedByTokens tokens.now allowance)
+    ensures { (output : List ℕ) × CanEnd (IsOwedByScript tokens.now (script_view script.now) allowance)
         (stream_of O.written O.faults out.old) (stream_of O.written O.faults out.new) (shown result output) }
 {
     match read_script(alloc, tokens) {
-        Ok(Some(script)) => run_script(alloc, tokens, &script, allowance, out),
-        Ok(None) => refused(),
+        Ok(Some(first)) => run_script(alloc, tokens, &first, allowance, out),
+        Ok(None) => refused(script),
         Err(NoMemory) => starved(),
     }
 }

@@ -7,11 +7,20 @@ ghost use Rattle.php_run.specs.Shown.{wanted};
 
 use crate::limits::DEFAULT_ALLOWANCE;
 
-/// A file to run, and the greatest number of ticks.
+/// What is to be done with a file.
+#[derive(Clone, Copy, Debug)]
+pub(crate) enum Task {
+    /// It is run, with so many ticks at most.
+    Run(u64),
+    /// It is checked alone.
+    Check,
+}
+
+/// A file, and what is to be done with it.
 #[derive(Clone, Copy, Debug)]
 pub(crate) struct Request<'a> {
     pub file: &'a str,
-    pub allowance: u64,
+    pub task: Task,
 }
 
 fn is_digit_byte(byte: u8) -> bool
@@ -82,7 +91,12 @@ pub(crate) fn requested(words: &Vec<String>) -> Option<Request<'_>>
             if command.as_str() == "run" && names_file(file.as_str()) {
                 Some(Request {
                     file: file.as_str(),
-                    allowance: DEFAULT_ALLOWANCE,
+                    task: Task::Run(DEFAULT_ALLOWANCE),
+                })
+            } else if command.as_str() == "check" && names_file(file.as_str()) {
+                Some(Request {
+                    file: file.as_str(),
+                    task: Task::Check,
                 })
             } else {
                 None
@@ -96,7 +110,7 @@ pub(crate) fn requested(words: &Vec<String>) -> Option<Request<'_>>
                 match allowance(number.as_bytes()) {
                     Some(allowance) => Some(Request {
                         file: file.as_str(),
-                        allowance,
+                        task: Task::Run(allowance),
                     }),
                     None => None,
                 }

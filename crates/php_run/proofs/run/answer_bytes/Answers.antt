@@ -1,14 +1,14 @@
-use Rattle.std.proofs.Common.{◌≡◌, ◌≤◌, ℕ, List, [], length, Some, subst, sym, ap, ◌∙◌, arith}
+use Rattle.std.proofs.Common.{◌≡◌, ◌≤◌, ℕ, List, [], length, Some, subst, arith}
 use Rattle.php_base.specs.Streams.{Stream, stream_of}
 use Rattle.php_base.proofs.Streams.{nothing_written}
-use Rattle.php_lex.specs.Reading as Reading
+use Rattle.php_ast.specs.declaration.View.{script_view}
+use Rattle.php_front.specs.Read.{IsScript}
 use Rattle.php_run.specs.declared.limits.TheConstants.{MOST_BYTES}
 use Rattle.php_run.specs.Answer.{Answer}
 use Rattle.php_run.specs.Called.{CanEnd, finished}
-use Rattle.php_run.specs.Owed.{IsOwed, lexed, read, too_many}
-use Rattle.php_run.specs.Shown.{shown, wanted}
-use Rattle.php_run.specs.Today.{IsOwedByTokens}
-use Rattle.php_run.proofs.Comes.{ends_as, ends_by_fault, taken_part, taken_whole}
+use Rattle.php_run.specs.Owed.{IsOwed, IsOwedTo, legal, read, too_many}
+use Rattle.php_run.specs.Shown.{shown, task_wanted, wanted}
+use Rattle.php_run.proofs.Comes.{ends_as, ends_unread, taken_part, taken_whole}
 use Rattle.php_run.proofs.run.answer_bytes.Goals as goal
 
 pub returns-then-bytes-gt-MOST_BYTES : goal.returns-then-bytes-gt-MOST_BYTES
@@ -22,14 +22,16 @@ returns-in-Ok g c = λ whole taken.
     let Q : List ℕ → Type 0 = λ l. length l ≤ MOST_BYTES in
     let s = g.O.Sink in
     let old : Stream = stream_of s.written s.faults c.args.out.now in
-    let new : Stream = stream_of s.written s.faults c.answer_tokens.new.out in
-    let tokens = c.in-Ok.tokens in
-    let end = c.answer_tokens.ensures in
-    let Due : Answer → Type 0 = IsOwedByTokens tokens c.args.request.now.allowance in
+    let new : Stream = stream_of s.written s.faults c.answer_read.new.out in
+    let found = c.in-Ok.read.tokens in
+    let script = script_view c.in-Ok.read.script in
+    let R : List ℕ → Type 0 = λ l. IsScript l found script in
+    let end = c.answer_read.ensures in
+    let Due : Answer → Type 0 = IsOwedTo (task_wanted c.args.request.now.task) found script in
     let Owed : Answer → Type 0 = IsOwed (Some (wanted c.args.request.now)) (Some whole) in (
       end.0,
-      ends_as Due Owed old new (shown c.answer_tokens.result end.0)
-          (λ a due. read (subst Q same short) (lexed tokens (ap Reading.tokens (sym same) ∙ c.in-Ok.ensures.tokens) due))
+      ends_as Due Owed old new (shown c.answer_read.result end.0)
+          (λ a due. read (subst Q same short) (legal found script (subst R same c.in-Ok.ensures.read) due))
           end.1,
     )
 
@@ -39,9 +41,9 @@ returns-in-Err g c = λ whole taken.
     let same : c.args.bytes.now ≡ whole = taken_whole c.args.bytes.now whole MOST_BYTES taken short in
     let s = g.O.Sink in
     let out : Stream = stream_of s.written s.faults c.args.out.now in
-    let P : List ℕ → Type 0 = λ file. CanEnd (IsOwed (Some (wanted c.args.request.now)) (Some file)) out out (shown c.after_fault.result []) in (
+    let P : List ℕ → Type 0 = λ file. CanEnd (IsOwed (Some (wanted c.args.request.now)) (Some file)) out out (shown c.unread.result []) in (
       [],
       subst P same
-          (ends_by_fault (wanted c.args.request.now) c.args.bytes.now c.in-Err.fault out (shown c.after_fault.result [])
-          short c.in-Err.ensures.tokens (nothing_written out) c.after_fault.ensures.starved c.after_fault.ensures.refused),
+          (ends_unread (wanted c.args.request.now) c.args.bytes.now c.in-Err.cause out (shown c.unread.result [])
+          short c.in-Err.ensures.refused (nothing_written out) c.unread.ensures),
     )

@@ -1,7 +1,7 @@
 use Rattle.std.proofs.Common.{◌&&◌, ◌≤◌, ◌∙◌, length, sym, ap, arith}
 use Rattle.std.specs.List.{list_all}
 use Rattle.php_first_tokens.specs.Lexemes.{names_of}
-use Rattle.php_run.specs.Today.{is_allowed}
+use Rattle.php_first_forms.specs.Forms.{is_allowed}
 use Rattle.php_run.specs.declared.today.TheConstants.{MOST_VARIABLES}
 use Rattle.std.proofs.lemmas.Bool.{le-leb}
 use Rattle.std.proofs.lemmas.List.{length-map}

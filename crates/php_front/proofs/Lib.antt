@@ -1,0 +1,4 @@
+pub mod Beginnings
+pub mod Faults
+pub mod Causes
+pub mod Unique

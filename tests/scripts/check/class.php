@@ -1,0 +1,5 @@
+<?php
+function f() {}
+abstract
+class C {}
+interface I {}

@@ -1,0 +1,2 @@
+<?php echo 1 2;
+echo 1.5;

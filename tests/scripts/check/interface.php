@@ -1,0 +1,4 @@
+<?php
+
+interface I {}
+class C {}

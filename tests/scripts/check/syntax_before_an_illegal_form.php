@@ -1,0 +1,2 @@
+<?php break;
+echo 1 2;

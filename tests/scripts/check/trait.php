@@ -1,0 +1,1 @@
+<?php trait T { function f() {} }

@@ -1,0 +1,4 @@
+<?php
+echo 1;
+final
+class C {}

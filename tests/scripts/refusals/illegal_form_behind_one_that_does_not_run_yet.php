@@ -1,0 +1,3 @@
+<?php
+if (1) echo 1;
+break;
