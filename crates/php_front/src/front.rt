@@ -87,3 +87,8 @@ pub fn read_script(alloc: Global, bytes: &[u8]) -> Result<Read, ReadFail>
         Err(failure) => Err(after_check(&tokens, failure)),
     }
 }
+
+/// Lets go of what was read. A caller that does so by this call has no code for the parts of trees.
+pub fn let_go(read: Read) {
+    let _read = read;
+}

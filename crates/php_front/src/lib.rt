@@ -6,4 +6,4 @@ mod front;
 pub mod laws;
 
 pub use fail::ReadFail;
-pub use front::{Read, read_script};
+pub use front::{Read, let_go, read_script};

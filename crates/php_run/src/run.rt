@@ -17,7 +17,7 @@ use crate::report::{Kind, Report, reported};
 use crate::today::answer_script;
 use crate::words::{Request, Task, requested};
 use php_base::{Shelf, ShelfFail, Sink};
-use php_front::{Read, read_script};
+use php_front::{Read, let_go, read_script};
 use std::alloc::Global;
 
 /// What is to be done with a legal script is done.
@@ -48,7 +48,11 @@ fn answer_bytes<'a, O: Sink>(
         return file_too_long(request.file);
     }
     match read_script(alloc, bytes) {
-        Ok(read) => answer_read(alloc, request.task, &read, out),
+        Ok(read) => {
+            let answer = answer_read(alloc, request.task, &read, out);
+            let_go(read);
+            answer
+        }
         Err(cause) => unread(cause),
     }
 }

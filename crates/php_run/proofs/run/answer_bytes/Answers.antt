@@ -22,15 +22,15 @@ returns-in-Ok g c = λ whole taken.
     let Q : List ℕ → Type 0 = λ l. length l ≤ MOST_BYTES in
     let s = g.O.Sink in
     let old : Stream = stream_of s.written s.faults c.args.out.now in
-    let new : Stream = stream_of s.written s.faults c.answer_read.new.out in
+    let new : Stream = stream_of s.written s.faults c.answer_read-answer.new.out in
     let found = c.in-Ok.read.tokens in
     let script = script_view c.in-Ok.read.script in
     let R : List ℕ → Type 0 = λ l. IsScript l found script in
-    let end = c.answer_read.ensures in
+    let end = c.answer_read-answer.ensures in
     let Due : Answer → Type 0 = IsOwedTo (task_wanted c.args.request.now.task) found script in
     let Owed : Answer → Type 0 = IsOwed (Some (wanted c.args.request.now)) (Some whole) in (
       end.0,
-      ends_as Due Owed old new (shown c.answer_read.result end.0)
+      ends_as Due Owed old new (shown c.answer_read-answer.result end.0)
           (λ a due. read (subst Q same short) (legal found script (subst R same c.in-Ok.ensures.read) due))
           end.1,
     )
