@@ -1,12 +1,12 @@
 // Whole expressions: what stands first, and the operators behind it.
 
 ghost use Rattle.std.specs.Prelude.{◌≡◌, ◌≤◌, ◌<◌, ◌+◌, ◌-◌, ℕ, List, length};
-ghost use Rattle.php_token.specs.Token.{Token};
+ghost use Rattle.php_token.specs.Token.{Token, token_at};
 ghost use Rattle.php_ast.specs.expression.Proper.{free};
 ghost use Rattle.php_parse_operands.specs.Answer.{AnswersHere, Nests};
 ghost use Rattle.php_parse_expression.specs.Behind.{AnswersNone, SeesInfix};
-ghost use Rattle.php_reader.specs.RoleView.{next_view};
-ghost use Rattle.php_reader.specs.Seen.{Follows};
+ghost use Rattle.php_reader.specs.RoleView.{next_view, start_view};
+ghost use Rattle.php_reader.specs.Seen.{Follows, Starts};
 
 use crate::operators::operator;
 use crate::pending::Onward;
@@ -35,11 +35,12 @@ fn operator_of(behind: Next, least: u8, edge: u8) -> Option<Infix>
 }
 
 /// Where no level of nesting is left, the first token of an expression is nested too deep.
-fn sunk(tokens: &Tokens, at: usize) -> Stop
-    requires { at ≤ length tokens.now }
+fn sunk(tokens: &Tokens, at: usize, start: Start) -> Stop
+    requires within { at ≤ length tokens.now }
+    requires starts { Starts tokens.now at (start_view start (token_at tokens.now at).text) }
     ensures { (least : ℕ) → least ≤ free → AnswersNone least tokens.now at result }
 {
-    match start_at(tokens, at) {
+    match start {
         Start::Nothing => Stop::Syntax(at),
         _ => Stop::TooDeep(at),
     }
@@ -47,15 +48,21 @@ fn sunk(tokens: &Tokens, at: usize) -> Stop
 
 /// The expression that begins at a place, of operators of a power of at least `least`. An operator whose right side
 /// is as deep as itself waits in a list while that is read.
-fn climb<R: ReadsInner>(parser: &Parser<R>, at: usize, least: u8) -> Result<Read, Stop>
+fn climb<R: ReadsInner>(
+    parser: &Parser<R>,
+    at: usize,
+    start: Start,
+    least: u8,
+) -> Result<Read, Stop>
     requires within { at ≤ length parser.now.reader.tokens.now }
     requires some { 1 ≤ least }
     requires small { least ≤ free }
+    requires starts { Starts parser.now.reader.tokens.now at (start_view start (token_at parser.now.reader.tokens.now at).text) }
     ensures { AnswersHere parser.now.reader least least at result }
 {
     let mut pending = Items::new(parser.reader.alloc);
     let mut inner = least;
-    let mut read = first(parser, at)?;
+    let mut read = first(parser, at, start)?;
     loop {
         match operator_of(read.behind, inner, read.edge) {
             Some(op) => match operator(parser, read, op, inner)? {
@@ -63,7 +70,7 @@ fn climb<R: ReadsInner>(parser: &Parser<R>, at: usize, least: u8) -> Result<Read
                 Onward::Inside(outer, next) => {
                     inner = outer.right();
                     pending.push(outer)?;
-                    read = first(parser, next)?;
+                    read = first(parser, next, start_at(parser.reader.tokens, next))?;
                 }
             },
             None => match pending.pop() {
@@ -81,12 +88,14 @@ fn climb<R: ReadsInner>(parser: &Parser<R>, at: usize, least: u8) -> Result<Read
 fn outer<R: ReadsInner + Drop>(
     reader: &Reader,
     at: usize,
+    start: Start,
     least: u8,
     inner: R,
 ) -> Result<Read, Stop>
     requires within { at ≤ length reader.now.tokens.now }
     requires some { 1 ≤ least }
     requires small { least ≤ free }
+    requires starts { Starts reader.now.tokens.now at (start_view start (token_at reader.now.tokens.now at).text) }
     requires deep { 1 ≤ reader.now.room }
     requires ready { Nests reader.now.room (R.allows inner) (R.gives inner) }
     ensures { AnswersHere reader.entry.now least least at result }
@@ -95,20 +104,32 @@ fn outer<R: ReadsInner + Drop>(
         reader: *reader,
         inner: Inner::new(reader.room, inner),
     };
-    climb(&parser, at, least)
+    climb(&parser, at, start, least)
 }
 
 /// The expression that begins at a place, of operators of a power of at least `least`, with the levels of nesting that
 /// the reader has: what stands there is read among any open forms in which so many levels are left, and that go on with
-/// every operator of such a power. It hands itself on, to read the expressions inside.
+/// every operator of such a power.
 pub fn read_expression(reader: &Reader, at: usize, least: u8) -> Result<Read, Stop>
     requires within { at ≤ length reader.now.tokens.now }
     requires some { 1 ≤ least }
     requires small { least ≤ free }
     ensures { AnswersHere reader.entry.now least least at result }
 {
+    read_begun(reader, at, start_at(reader.tokens, at), least)
+}
+
+/// The same, where the token at the place was looked at: it begins `start`. It hands itself on, to read the expressions
+/// inside.
+pub fn read_begun(reader: &Reader, at: usize, start: Start, least: u8) -> Result<Read, Stop>
+    requires within { at ≤ length reader.now.tokens.now }
+    requires some { 1 ≤ least }
+    requires small { least ≤ free }
+    requires starts { Starts reader.now.tokens.now at (start_view start (token_at reader.now.tokens.now at).text) }
+    ensures { AnswersHere reader.entry.now least least at result }
+{
     if reader.room == 0 {
-        return Err(sunk(reader.tokens, at));
+        return Err(sunk(reader.tokens, at, start));
     }
-    outer(reader, at, least, Calls(read_expression))
+    outer(reader, at, start, least, Calls(read_begun))
 }

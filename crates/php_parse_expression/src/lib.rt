@@ -6,7 +6,7 @@ mod operators;
 mod parse;
 mod pending;
 
-pub use expression::read_expression;
+pub use expression::{read_begun, read_expression};
 pub use parse::parse_expr;
 pub use php_parse_operands::Read;
 pub use php_reader::ParseFail;

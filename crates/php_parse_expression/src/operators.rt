@@ -25,7 +25,7 @@ use php_parse_operands::{Parser, Read, ReadsInner};
 use php_parse_prefixes::{edge_of, right_of, static_alone};
 use php_reader::Stop;
 use php_reader::limit::LEAST_POWER;
-use php_reader::look::{closed_by, opening_at, sees_colon, spot};
+use php_reader::look::{closed_by, due_at, ended_by, opening_at, spot};
 use php_reader::role::{Infix, Opening};
 use sqlite_items::Boxed;
 use std::alloc::Global;
@@ -135,7 +135,8 @@ fn choice<R: ReadsInner>(parser: &Parser<R>, left: Read, least: u8) -> Result<On
     ensures { AnswersOnward left least parser.now.reader result }
 {
     let place = left.next + 1;
-    if sees_colon(parser.reader.tokens, place) {
+    let due = due_at(parser.reader.tokens, place);
+    if ended_by(due.mark, Closer::Colon) {
         return Ok(Onward::Inside(
             Pending {
                 left: left.expr,
@@ -145,7 +146,7 @@ fn choice<R: ReadsInner>(parser: &Parser<R>, left: Read, least: u8) -> Result<On
             place + 1,
         ));
     }
-    let middle = match parser.deeper(place, LEAST_POWER) {
+    let middle = match parser.deeper_begun(place, due.start, LEAST_POWER) {
         Ok(middle) => middle,
         Err(stop) => return Err(discard(left, stop)),
     };

@@ -1,24 +1,20 @@
 -- Lists: items and what stands between them.
 use Rattle.std.proofs.Common.{◌≡◌, ◌≢◌, ◌≤◌, inl, ℕ, ◌-◌, Bool, true, false, Some, None, List, [], ◌∷◌, refl, sym, ◌∙◌, ap, arith}
 use Rattle.php_reader.specs.declared.limit.TheConstants.{LEAST_POWER}
-use Rattle.php_ast.specs.declared.operator.Binary.{Binary}
-use Rattle.php_ast.specs.declared.operator.Binary.TheVariants as binary
-use Rattle.php_token.specs.declared.kind.Punct.{Punct}
 use Rattle.php_ast.specs.declared.operator.ArrayForm.{ArrayForm}
 use Rattle.php_ast.specs.declared.operator.ArrayForm.TheVariants as array_form
-use Rattle.php_ast.specs.Symbol.{Symbol, punct}
-use Rattle.php_token.specs.declared.kind.Punct.TheVariants as mark
+use Rattle.php_ast.specs.Symbol.{Symbol}
 use Rattle.php_ast.specs.expression.Proper.{ends, is_none, top}
 use Rattle.php_ast.specs.expression.Tree.{Listing}
 use Rattle.php_ast.specs.expression.Tree.{Items, none, and, skip, Lead, plain, reference, spread, keyed, keyed_reference, listed, array, is_set}
 use Rattle.php_grammar.specs.declared.closer.Closer.{Closer}
 use Rattle.php_grammar.specs.declared.closer.Closer.TheVariants as ender
-use Rattle.php_grammar.specs.expression.Role as role
-use Rattle.php_grammar.specs.expression.Role.{Mark, refers, spreads, ends_item, begins, item_mark, mark_of, Continuation, closes, draws, neither, continuation, is_ampersand, is_paren, at_listed, beginning}
+use Rattle.php_grammar.specs.expression.Role.{refers, spreads, item_mark, closes, continuation, is_ampersand, is_paren, at_listed, beginning}
 use Rattle.php_grammar.specs.expression.Machine.{Nothing, Form, Holder, of_call, of_new, of_list, is_array, is_arguments, has_paren, may_end, is_plain, items_open, OpenForms, State, expects, holds, past_items, past_value, due_listed, closed, keys, closed_with, ended_items, after, item_step, allowed_if, pick, start, started}
 use Rattle.php_grammar.specs.expression.Laws.{head_continuation}
 use Rattle.php_parse_operands.specs.Walk.{Leads, Halts, Rests, walk, short}
 use Rattle.php_reader.specs.Seen.{test, head_mark}
+use Rattle.php_reader.proofs.Items.{mark_closes, closes_mark}
 use Rattle.php_parse_operands.specs.ListAnswer.{closer_in}
 use Rattle.php_parse_operands.proofs.Moves.{leads, leads_halts, move, sink, sticks, inside, close, unclosed_halts}
 use Rattle.php_parse_operands.proofs.Enters.{items_enter}
@@ -39,29 +35,6 @@ pub arguments_end : (h : Holder) (items : Items Nothing) → is_arguments h ≡ 
 arguments_end (of_call f) items g = refl
 arguments_end (of_new class) items g = refl
 arguments_end (of_list listing) items g = cc
-
--- a mark that ends an item ends an expression
-mark_closes_by : (x : Continuation) (c : Closer) → mark_of x ≡ ends_item c → x ≡ closes c
-mark_closes_by (closes k) c h = cc
-mark_closes_by (draws (role.by_binary op)) c h = absurd (joined op h)
-  where
-    joined : (op : Binary) → mark_of (draws (role.by_binary op)) ≡ ends_item c → ⊥
-    joined binary.BitAnd h = cc
-    joined _ h = cc
-mark_closes_by (draws _) c h = cc
-mark_closes_by neither c h = cc
-
-mark_closes_punct : (p : Punct) (c : Closer) → item_mark (punct p) ≡ ends_item c → continuation (punct p) ≡ closes c
-mark_closes_punct mark.Ellipsis c h = cc
-mark_closes_punct p c h = mark_closes_by (continuation (punct p)) c h
-
-mark_closes_one : (t : Symbol) (c : Closer) → item_mark t ≡ ends_item c → continuation t ≡ closes c
-mark_closes_one (punct p) c h = mark_closes_punct p c h
-mark_closes_one t c h = mark_closes_by (continuation t) c h
-
-pub mark_closes : (v : List Symbol) (c : Closer) → head_mark v ≡ ends_item c → head_continuation v ≡ closes c
-mark_closes [] c h = cc
-mark_closes (t ∷ w) c h = mark_closes_one t c h
 
 -- ---- before an item
 
@@ -202,14 +175,6 @@ pub item_unclosed : {room : ℕ} {v : List Symbol} (h : Holder) (items : Items N
 item_unclosed {room} {v} h items lead e rests g = unclosed_halts e (items_open h items lead) v refl rests (λ k s is. shut_items k h items lead e s v g is)
 
 -- ---- where an item is due
-
-closes_mark_punct : (p : Punct) (c : Closer) → continuation (punct p) ≡ closes c → item_mark (punct p) ≡ ends_item c
-closes_mark_punct mark.Ellipsis c h = cc
-closes_mark_punct p c h = ap mark_of h
-
-pub closes_mark : (t : Symbol) (c : Closer) → continuation t ≡ closes c → item_mark t ≡ ends_item c
-closes_mark (punct p) c h = closes_mark_punct p c h
-closes_mark t c h = ap mark_of h
 
 missing_on : (form : ArrayForm) (items : Items Nothing) (s : OpenForms) (t : Symbol) → continuation t ≡ closes ender.Comma
     → item_step (item_mark t) (of_list (array form)) items s t ≡ Some (past_items (of_list (array form)) (skip items) s)

@@ -1,7 +1,7 @@
 -- What the functions of the parser answer.
 use Rattle.std.specs.Prelude.{◌≡◌, ◌≤◌, ◌<◌, ℕ, ◌+◌, ◌-◌, Bool, true, false, Option, Some, None, Result, Ok, Err, List, map, length}
 use denote.Ref.{Bor}
-use Rattle.php_token.specs.Token.{Token}
+use Rattle.php_token.specs.Token.{Token, token_at}
 use Rattle.php_ast.specs.declared.expression.Expr.{Expr}
 use Rattle.php_ast.specs.declared.expression.Suffix.{Suffix}
 use Rattle.php_ast.specs.Symbol.{Symbol}
@@ -22,9 +22,10 @@ use Rattle.php_parse_operands.specs.declared.read.Operand.{Operand}
 use Rattle.php_parse_operands.specs.declared.read.Followed.{Followed}
 use Rattle.php_ast.specs.expression.Parts.{suffix_with}
 use Rattle.php_build.specs.Flat.{are_flat_suffixes}
+use Rattle.php_reader.specs.declared.role.Start.{Start}
 use Rattle.php_reader.specs.declared.role.Tail.{Tail}
-use Rattle.php_reader.specs.RoleView.{next_view, tail_view}
-use Rattle.php_reader.specs.Seen.{rest, Follows, Shows}
+use Rattle.php_reader.specs.RoleView.{next_view, start_view, tail_view}
+use Rattle.php_reader.specs.Seen.{rest, Follows, Shows, Starts}
 use Rattle.php_parse_operands.specs.Walk.{Leads, Halts, Rests}
 
 -- ---- failures
@@ -77,9 +78,10 @@ AnswersInside reader least at r = Answers (reader.room - 1) least least (λ s. e
 -- ---- the parser as a value
 
 -- What reads expressions with less than so many levels of nesting left.
-pub record Nests (bound : ℕ) (allows : Bor Reader → ℕ → ℕ → Type 0) (gives : Bor Reader → ℕ → ℕ → Result Read Stop → Type 0) : Type 0 where
-  pub callable : (reader : Bor Reader) (at least : ℕ) → at ≤ length reader.now.tokens.now → 1 ≤ least → least ≤ free → reader.now.room < bound → allows reader at least
-  pub reads : (reader : Bor Reader) (at least : ℕ) (r : Result Read Stop) → gives reader at least r → AnswersHere reader.now least least at r
+pub record Nests (bound : ℕ) (allows : Bor Reader → ℕ → Start → ℕ → Type 0) (gives : Bor Reader → ℕ → Start → ℕ → Result Read Stop → Type 0) : Type 0 where
+  pub callable : (reader : Bor Reader) (at : ℕ) (begun : Start) (least : ℕ) → at ≤ length reader.now.tokens.now → 1 ≤ least → least ≤ free → reader.now.room < bound
+      → Starts reader.now.tokens.now at (start_view begun (token_at reader.now.tokens.now at).text) → allows reader at begun least
+  pub reads : (reader : Bor Reader) (at : ℕ) (begun : Start) (least : ℕ) (r : Result Read Stop) → gives reader at begun least r → AnswersHere reader.now least least at r
 
 -- ---- operands
 

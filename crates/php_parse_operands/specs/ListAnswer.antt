@@ -25,7 +25,8 @@ use Rattle.php_reader.specs.declared.fail.Stop.{Stop}
 use Rattle.php_parse_operands.specs.declared.read.Listed.{Listed}
 use Rattle.php_parse_operands.specs.declared.read.Element.{Element}
 use Rattle.php_parse_operands.specs.declared.read.Entry.{Entry}
-use Rattle.php_reader.specs.RoleView.{next_view}
+use Rattle.php_reader.specs.declared.role.Due.{Due}
+use Rattle.php_reader.specs.RoleView.{next_view, IsDue}
 use Rattle.php_ast.specs.expression.Parts.{argument_with, class_with, item_with, piece_with, step_with}
 use Rattle.php_build.specs.Flat.{are_flat, is_flat_piece, are_flat_pieces, is_flat_item, are_flat_items, is_flat_argument, are_flat_arguments, is_flat_step, are_flat_steps, is_flat_class}
 use Rattle.php_ast.specs.declared.expression.ClassStep.{ClassStep}
@@ -210,13 +211,14 @@ AnswersPieces reader at (Err e) = Fails reader.room top (λ s. past_template tre
 
 -- ---- what loops have read so far
 
-pub record ArgumentsSoFar (room : ℕ) (tokens : List Token) (at : ℕ) (xs : List (Argument Expr)) (next : ℕ) : Type 0 where
+pub record ArgumentsSoFar (room : ℕ) (tokens : List Token) (at : ℕ) (xs : List (Argument Expr)) (next : ℕ) (due : Due) : Type 0 where
   pub items : tree.Items Nothing
   pub shown : shown.arguments_from tree.none (map (argument_with view) xs) ≡ noted_items (notes_of tokens) at items
   pub sized : at + size_items items + comma_size items ≡ next
   pub flat : are_flat_arguments xs ≡ true
   pub reads : (h : Holder) → is_arguments h ≡ true → Leads room top (λ s. past_items h tree.none s) (rest tokens at) (λ s. past_items h items s) (rest tokens next)
   pub no_end : head_continuation (rest tokens next) ≢ closes ender.Paren
+  pub seen : IsDue tokens next due
   pub within : next ≤ length tokens
 
 pub record ValuesSoFar (room : ℕ) (tokens : List Token) (at : ℕ) (xs : List Expr) (next : ℕ) : Type 0 where

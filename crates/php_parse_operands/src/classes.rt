@@ -45,7 +45,7 @@ fn step_of(behind: Next) -> Option<StepKind>
 }
 
 /// Whether arguments begin with a token that does this.
-fn opens_arguments(behind: Next) -> bool
+pub(crate) fn opens_arguments(behind: Next) -> bool
     ensures { (tokens : List Token) (at : ℕ) → Follows tokens at (next_view behind) → SeesArguments tokens at result }
 {
     matches!(behind, Next::Suffix(Tail::Call))

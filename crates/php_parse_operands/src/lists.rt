@@ -12,6 +12,7 @@ ghost use Rattle.php_parse_operands.specs.Answer.{AnswersLeaf};
 ghost use Rattle.php_parse_operands.specs.ListAnswer.{AnswersArgument, AnswersArguments, AnswersItem, AnswersItems, AnswersKeyed, AnswersValues, closer_in};
 ghost use Rattle.php_build.specs.Flat.{is_flat};
 ghost use Rattle.php_reader.specs.Seen.{Shows, rest};
+ghost use Rattle.php_reader.specs.RoleView.{IsDue};
 
 use crate::inner::ReadsInner;
 use crate::parser::Parser;
@@ -24,8 +25,9 @@ use php_lex::Tokens;
 use php_reader::Stop;
 use php_reader::limit::{LEAST_POWER, TOP};
 use php_reader::look::{
-    closed_by, ends_with, next_at, sees_ampersand, sees_paren, sees_reference, sees_spread, spot,
+    closed_by, due_at, ended_by, is_reference, is_spread, next_at, sees_paren, spot,
 };
+use php_reader::role::Due;
 use sqlite_items::Items;
 use std::alloc::Global;
 
@@ -40,13 +42,14 @@ fn closer_of(form: ArrayForm) -> Closer
 }
 
 impl<'t, R: ReadsInner> Parser<'t, R> {
-    /// An argument.
-    fn argument(&self, at: usize) -> Result<Element<Argument<Expr>>, Stop>
+    /// An argument. The token at its place is `due`.
+    fn argument(&self, at: usize, due: Due) -> Result<Element<Argument<Expr>>, Stop>
         requires within { at ≤ length self.now.reader.tokens.now }
+        requires seen { IsDue self.now.reader.tokens.now at due }
         requires no_end { head_continuation (rest self.now.reader.tokens.now at) ≢ closes ender.Paren }
         ensures { AnswersArgument self.now.reader at result }
     {
-        if sees_spread(self.reader.tokens, at) {
+        if is_spread(due.mark) {
             if self.reader.room == 1 {
                 return Err(Stop::TooDeep(at));
             }
@@ -67,7 +70,7 @@ impl<'t, R: ReadsInner> Parser<'t, R> {
             edge: _,
             next,
             behind,
-        } = self.deeper(at, LEAST_POWER)?;
+        } = self.deeper_begun(at, due.start, LEAST_POWER)?;
         Ok(Element {
             item: Argument::Value(expr),
             next,
@@ -75,16 +78,18 @@ impl<'t, R: ReadsInner> Parser<'t, R> {
         })
     }
 
-    /// One argument or more, and the parenthesis behind them.
-    fn some_arguments(&self, at: usize) -> Result<Listed<Argument<Expr>>, Stop>
+    /// One argument or more, and the parenthesis behind them. The token at their place is `due`.
+    fn some_arguments(&self, at: usize, due: Due) -> Result<Listed<Argument<Expr>>, Stop>
         requires within { at ≤ length self.now.reader.tokens.now }
+        requires seen { IsDue self.now.reader.tokens.now at due }
         requires no_end { head_continuation (rest self.now.reader.tokens.now at) ≢ closes ender.Paren }
         ensures { AnswersArguments self.now.reader at result }
     {
         let mut items = Items::new(self.reader.alloc);
         let mut next = at;
+        let mut due = due;
         loop {
-            let entry = self.argument(next)?;
+            let entry = self.argument(next, due)?;
             items.push(entry.item)?;
             if closed_by(entry.behind, Closer::Paren) {
                 return Ok(Listed {
@@ -96,8 +101,9 @@ impl<'t, R: ReadsInner> Parser<'t, R> {
                 return Err(Stop::Syntax(entry.next));
             }
             next = entry.next + 1;
+            due = due_at(self.reader.tokens, next);
             // No argument begins with it, and none is read before this is known.
-            if ends_with(self.reader.tokens, next, Closer::Paren) {
+            if ended_by(due.mark, Closer::Paren) {
                 return Err(Stop::Syntax(next));
             }
         }
@@ -108,8 +114,9 @@ impl<'t, R: ReadsInner> Parser<'t, R> {
         requires within { at ≤ length self.now.reader.tokens.now }
         ensures { AnswersArguments self.now.reader at result }
     {
-        if !ends_with(self.reader.tokens, at, Closer::Paren) {
-            return self.some_arguments(at);
+        let due = due_at(self.reader.tokens, at);
+        if !ended_by(due.mark, Closer::Paren) {
+            return self.some_arguments(at, due);
         }
         if self.reader.room == 1 {
             return Err(Stop::TooDeep(at));
@@ -168,7 +175,8 @@ impl<'t, R: ReadsInner> Parser<'t, R> {
         requires flat { is_flat key ≡ true }
         ensures { AnswersKeyed (view key) self.now.reader at result }
     {
-        if sees_ampersand(self.reader.tokens, at) {
+        let due = due_at(self.reader.tokens, at);
+        if is_reference(due.mark) {
             let Read {
                 expr,
                 edge: _,
@@ -186,7 +194,7 @@ impl<'t, R: ReadsInner> Parser<'t, R> {
             edge: _,
             next,
             behind,
-        } = self.deeper(at, LEAST_POWER)?;
+        } = self.deeper_begun(at, due.start, LEAST_POWER)?;
         Ok(Element {
             item: Item::Keyed(key, expr),
             next,
@@ -194,14 +202,15 @@ impl<'t, R: ReadsInner> Parser<'t, R> {
         })
     }
 
-    /// An item that is not missing.
-    fn item(&self, at: usize, form: ArrayForm) -> Result<Element<Item<Expr>>, Stop>
+    /// An item that is not missing. The token at its place is `due`.
+    fn item(&self, at: usize, due: Due, form: ArrayForm) -> Result<Element<Item<Expr>>, Stop>
         requires within { at ≤ length self.now.reader.tokens.now }
+        requires seen { IsDue self.now.reader.tokens.now at due }
         requires no_comma { head_continuation (rest self.now.reader.tokens.now at) ≢ closes ender.Comma }
         requires no_end { head_continuation (rest self.now.reader.tokens.now at) ≢ closes (closer_in form) }
         ensures { AnswersItem form self.now.reader at result }
     {
-        if sees_reference(self.reader.tokens, at) {
+        if is_reference(due.mark) {
             if self.reader.room == 1 {
                 return Err(Stop::TooDeep(at));
             }
@@ -222,7 +231,7 @@ impl<'t, R: ReadsInner> Parser<'t, R> {
             edge: _,
             next,
             behind,
-        } = self.deeper(at, LEAST_POWER)?;
+        } = self.deeper_begun(at, due.start, LEAST_POWER)?;
         if closed_by(behind, Closer::DoubleArrow) {
             return self.keyed(next + 1, expr);
         }
@@ -241,8 +250,8 @@ impl<'t, R: ReadsInner> Parser<'t, R> {
         let mut items = Items::new(self.reader.alloc);
         let mut next = at;
         loop {
-            let due = next_at(self.reader.tokens, next);
-            if closed_by(due, closer_of(form)) {
+            let due = due_at(self.reader.tokens, next);
+            if ended_by(due.mark, closer_of(form)) {
                 if self.reader.room == 1 {
                     return Err(Stop::TooDeep(next));
                 }
@@ -251,14 +260,14 @@ impl<'t, R: ReadsInner> Parser<'t, R> {
                     next: next + 1,
                 });
             }
-            if closed_by(due, Closer::Comma) {
+            if ended_by(due.mark, Closer::Comma) {
                 if self.reader.room == 1 {
                     return Err(Stop::TooDeep(next));
                 }
                 items.push(Item::Missing)?;
                 next += 1;
             } else {
-                let entry = self.item(next, form)?;
+                let entry = self.item(next, due, form)?;
                 items.push(entry.item)?;
                 if closed_by(entry.behind, closer_of(form)) {
                     return Ok(Listed {

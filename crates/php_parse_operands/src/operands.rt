@@ -13,6 +13,7 @@ ghost use Rattle.php_reader.specs.Seen.{Shows};
 ghost use Rattle.php_reader.specs.RoleView.{leaf_view, opening_view};
 ghost use Rattle.php_reader.specs.declared.role.Opening.TheVariants.{Static};
 
+use crate::classes::opens_arguments;
 use crate::inner::ReadsInner;
 use crate::parser::Parser;
 use crate::read::{Read, Taken};
@@ -26,7 +27,7 @@ use php_lex::Tokens;
 use php_reader::Stop;
 use php_reader::limit::{LEAST_POWER, OPEN_EXIT, TOP};
 use php_reader::look::{
-    closed_by, member_at, name_at, next_at, sees_paren, sees_right_paren, spot, text_at,
+    closed_by, due_at, ended_by, member_at, name_at, next_at, sees_paren, spot, text_at,
 };
 use php_reader::role::{LeafKind, Opening};
 use std::alloc::Global;
@@ -121,15 +122,17 @@ impl<'t, R: ReadsInner> Parser<'t, R> {
         ensures { AnswersLeaf self.now.reader at result }
     {
         let paren = at + 1;
-        if !sees_paren(self.reader.tokens, paren) {
+        let behind = next_at(self.reader.tokens, paren);
+        if !opens_arguments(behind) {
             return Ok(Taken {
                 expr: exit_expr(spot(self.reader.tokens, at)),
                 edge: OPEN_EXIT,
                 next: paren,
-                behind: next_at(self.reader.tokens, paren),
+                behind,
             });
         }
-        if sees_right_paren(self.reader.tokens, paren + 1) {
+        let due = due_at(self.reader.tokens, paren + 1);
+        if ended_by(due.mark, Closer::Paren) {
             if self.reader.room == 1 {
                 return Err(Stop::TooDeep(paren + 1));
             }
@@ -140,7 +143,7 @@ impl<'t, R: ReadsInner> Parser<'t, R> {
                 behind: next_at(self.reader.tokens, paren + 1 + 1),
             });
         }
-        let inside = self.deeper(paren + 1, LEAST_POWER)?;
+        let inside = self.deeper_begun(paren + 1, due.start, LEAST_POWER)?;
         if !closed_by(inside.behind, Closer::Paren) {
             return Err(Stop::Syntax(inside.next));
         }

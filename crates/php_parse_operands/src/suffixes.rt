@@ -23,7 +23,7 @@ use php_grammar::Closer;
 use php_lex::Tokens;
 use php_reader::Stop;
 use php_reader::limit::{LEAST_POWER, TOP};
-use php_reader::look::{closed_by, member_at, next_at, sees_left_brace, sees_right_bracket};
+use php_reader::look::{closed_by, due_at, ended_by, member_at, next_at, sees_left_brace};
 use php_reader::role::{Next, Opening, Tail, tail_strength};
 use sqlite_items::Items;
 use std::alloc::Global;
@@ -81,7 +81,8 @@ impl<'t, R: ReadsInner> Parser<'t, R> {
         ensures { (f : Form) (start : ℕ) → start + size f ≡ at → draw_strength role.by_index < ends f → AnswersSuffix self.now.reader f start at result }
     {
         let inside = at + 1;
-        if sees_right_bracket(self.reader.tokens, inside) {
+        let due = due_at(self.reader.tokens, inside);
+        if ended_by(due.mark, Closer::Bracket) {
             if self.reader.room == 1 {
                 return Err(Stop::TooDeep(inside));
             }
@@ -96,7 +97,7 @@ impl<'t, R: ReadsInner> Parser<'t, R> {
             edge: _,
             next,
             behind,
-        } = self.deeper(inside, LEAST_POWER)?;
+        } = self.deeper_begun(inside, due.start, LEAST_POWER)?;
         if !closed_by(behind, Closer::Bracket) {
             return Err(Stop::Syntax(next));
         }

@@ -1,3 +1,4 @@
 pub mod Fronts
 pub mod Founds
 pub mod Onwards
+pub mod Lone

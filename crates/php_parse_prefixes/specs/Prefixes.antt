@@ -1,11 +1,12 @@
 -- What the productions answer that read what stands before the first operator, and what looks answer them.
-use Rattle.std.specs.Prelude.{◌≡◌, ◌≢◌, ◌<◌, ℕ, ◌+◌, Option, Some, None, Result, List, ◌∷◌}
+use Rattle.std.specs.Prelude.{◌≡◌, ◌≢◌, ◌<◌, ℕ, ◌+◌, true, false, Option, Some, None, Result, List, ◌∷◌}
 use Rattle.php_token.specs.Token.{Token}
 use Rattle.php_ast.specs.expression.Tree as tree
 use Rattle.php_ast.specs.expression.Proper.{ends, free, operand_level}
 use Rattle.php_ast.specs.expression.View.{view}
 use Rattle.php_grammar.specs.expression.Role as role
-use Rattle.php_grammar.specs.expression.Role.{continuation, draws}
+use Rattle.php_grammar.specs.expression.Role.{continuation, draws, ends_yield}
+use Rattle.php_grammar.specs.expression.Laws.{head_continuation}
 use Rattle.php_grammar.specs.expression.Machine.{Form, holds, yield_open}
 use Rattle.php_reader.specs.declared.reader.Reader.{Reader}
 use Rattle.php_reader.specs.declared.fail.Stop.{Stop}
@@ -39,6 +40,11 @@ AnswersYield key reader at r =
 abbrev pub SeesStatic : List Token → ℕ → Opening → Option Next → Type 0
 SeesStatic tokens at begun (Some behind) = (begun ≡ opening.Static) × (next_view behind ≢ draws (role.by_select tree.colons)) × Follows tokens (at + 1) (next_view behind)
 SeesStatic tokens at begun None = begun ≡ opening.Static → Shows continuation tokens (at + 1) (draws (role.by_select tree.colons))
+
+-- what the token behind a `yield` does that stands alone
+abbrev pub SeesLone : List Token → ℕ → Option Next → Type 0
+SeesLone tokens at (Some behind) = Follows tokens at (next_view behind) × (ends_yield (next_view behind) ≡ true)
+SeesLone tokens at None = ends_yield (head_continuation (rest tokens at)) ≡ false
 
 -- whether the operand before is changed, where no suffix follows
 abbrev pub SeesChange : List Token → ℕ → Option Change → Type 0

@@ -11,9 +11,9 @@ ghost use Rattle.php_grammar.specs.expression.Role.{beginning, closes, continuat
 ghost use Rattle.php_ast.specs.declared.operator.Assign.TheVariants.{Plain};
 ghost use Rattle.php_reader.specs.declared.role.Opening.TheVariants.{Static};
 ghost use Rattle.php_parse_operands.specs.Answer.{AnswersHere};
-ghost use Rattle.php_parse_prefixes.specs.Prefixes.{AnswersAssigned, AnswersYield, SeesChange, SeesStatic};
-ghost use Rattle.php_reader.specs.Seen.{Follows, Shows, rest, test};
-ghost use Rattle.php_reader.specs.RoleView.{next_view, opening_view};
+ghost use Rattle.php_parse_prefixes.specs.Prefixes.{AnswersAssigned, AnswersYield, SeesChange, SeesLone, SeesStatic};
+ghost use Rattle.php_reader.specs.Seen.{Follows, Marks, Shows, Starts, rest, test};
+ghost use Rattle.php_reader.specs.RoleView.{mark_view, next_view, opening_view, start_view};
 
 use crate::edges::{edge_of, right_of};
 use php_ast::{Assign, Count, Prefix, power_of_yield, prefix_power_of, row_of_assignment};
@@ -26,8 +26,8 @@ use php_lex::Tokens;
 use php_parse_operands::{Operand, Parser, Read, ReadsInner};
 use php_reader::Stop;
 use php_reader::limit::{OPEN_COUNT, OPEN_YIELD};
-use php_reader::look::{closed_by, next_at, sees_ampersand, spot, start_at};
-use php_reader::role::{Next, Opening, Start, Tail};
+use php_reader::look::{closed_by, due_at, is_reference, next_at, spot};
+use php_reader::role::{Mark, Next, Opening, Start, Tail};
 use std::alloc::Global;
 
 /// Whether a token that does this is `::`.
@@ -53,14 +53,27 @@ pub fn static_alone(tokens: &Tokens, at: usize, opening: Opening) -> Option<Next
     Some(behind)
 }
 
-/// Whether a `yield` stands alone in front of a token that does this.
-fn yields_nothing(behind: Next) -> bool
-    ensures { result ≡ ends_yield (next_view behind) }
+/// Whether a `yield` stands alone in front of a token that ends what stands before it so.
+fn yields_nothing(closer: Closer) -> bool
+    ensures { result ≡ ends_yield (closes closer) }
 {
-    match behind {
-        Next::Closes(Closer::Paren | Closer::Bracket | Closer::Comma | Closer::Semicolon) => true,
+    match closer {
+        Closer::Paren | Closer::Bracket | Closer::Comma | Closer::Semicolon => true,
         _ => false,
     }
+}
+
+/// What a token with this mark does behind a `yield` that stands alone in front of it.
+fn lone_yield(mark: Mark) -> Option<Next>
+    ensures { (tokens : List Token) (at : ℕ) → Marks tokens at (mark_view mark) → SeesLone tokens at result }
+{
+    let Mark::Ends(closer) = mark else {
+        return None;
+    };
+    if yields_nothing(closer) {
+        return Some(Next::Closes(closer));
+    }
+    None
 }
 
 /// The least power of an operator in what is assigned.
@@ -122,13 +135,19 @@ fn prefix<R: ReadsInner>(parser: &Parser<R>, at: usize, op: Prefix) -> Result<Re
     })
 }
 
-/// The value that is assigned to `left`, from the sign on.
-fn assign_value<R: ReadsInner>(parser: &Parser<R>, left: Operand, op: Assign) -> Result<Read, Stop>
+/// The value that is assigned to `left`, from the sign on. The token behind that begins `start`.
+fn assign_value<R: ReadsInner>(
+    parser: &Parser<R>,
+    left: Operand,
+    op: Assign,
+    start: Start,
+) -> Result<Read, Stop>
     requires here { Shows continuation parser.now.reader.tokens.now left.next (draws (role.by_assign op)) }
     requires no_reference { op ≡ Plain → test is_ampersand (rest parser.now.reader.tokens.now (left.next + 1)) ≡ false }
+    requires starts { Starts parser.now.reader.tokens.now (left.next + 1) (start_view start (token_at parser.now.reader.tokens.now (left.next + 1)).text) }
     ensures { AnswersAssigned left parser.now.reader result }
 {
-    let value = parser.deeper(left.next + 1, value_power())?;
+    let value = parser.deeper_begun(left.next + 1, start, value_power())?;
     Ok(Read {
         edge: assign_edge().min(value.edge),
         next: value.next,
@@ -158,12 +177,13 @@ fn assign<R: ReadsInner>(parser: &Parser<R>, left: Operand, op: Assign) -> Resul
     requires here { Shows continuation parser.now.reader.tokens.now left.next (draws (role.by_assign op)) }
     ensures { AnswersAssigned left parser.now.reader result }
 {
+    let due = due_at(parser.reader.tokens, left.next + 1);
     if let Assign::Plain = op {
-        if sees_ampersand(parser.reader.tokens, left.next + 1) {
+        if is_reference(due.mark) {
             return assign_reference(parser, left);
         }
     }
-    assign_value(parser, left, op)
+    assign_value(parser, left, op, due.start)
 }
 
 /// An operand, alone, counted or assigned.
@@ -222,8 +242,8 @@ fn yielding<R: ReadsInner>(parser: &Parser<R>, at: usize) -> Result<Read, Stop>
     requires here { Shows beginning parser.now.reader.tokens.now at role.at_yield }
     ensures { AnswersHere parser.now.reader free free at result }
 {
-    let behind = next_at(parser.reader.tokens, at + 1);
-    if yields_nothing(behind) {
+    let due = due_at(parser.reader.tokens, at + 1);
+    if let Some(behind) = lone_yield(due.mark) {
         return Ok(Read {
             expr: yield_nothing_expr(spot(parser.reader.tokens, at)),
             edge: OPEN_YIELD,
@@ -231,7 +251,7 @@ fn yielding<R: ReadsInner>(parser: &Parser<R>, at: usize) -> Result<Read, Stop>
             behind,
         });
     }
-    let value = parser.deeper(at + 1, yielded_power())?;
+    let value = parser.deeper_begun(at + 1, due.start, yielded_power())?;
     if closed_by(value.behind, Closer::DoubleArrow) {
         return yield_pair(parser, at, value);
     }
@@ -247,12 +267,13 @@ fn yielding<R: ReadsInner>(parser: &Parser<R>, at: usize) -> Result<Read, Stop>
     })
 }
 
-/// What stands at a place before the first operator behind it.
-pub fn first<R: ReadsInner>(parser: &Parser<R>, at: usize) -> Result<Read, Stop>
+/// What stands at a place before the first operator behind it. The token at that place begins `start`.
+pub fn first<R: ReadsInner>(parser: &Parser<R>, at: usize, start: Start) -> Result<Read, Stop>
     requires within { at ≤ length parser.now.reader.tokens.now }
+    requires starts { Starts parser.now.reader.tokens.now at (start_view start (token_at parser.now.reader.tokens.now at).text) }
     ensures { AnswersHere parser.now.reader free free at result }
 {
-    match start_at(parser.reader.tokens, at) {
+    match start {
         Start::Operand(opening) => changed_operand(parser, at, opening),
         Start::Prefix(op) => prefix(parser, at, op),
         Start::Yield => yielding(parser, at),

@@ -1,5 +1,5 @@
 -- Names of members.
-use Rattle.std.proofs.Common.{◌≡◌, ◌≢◌, ℕ, Bool, true, false, Option, Some, None, List, refl, ap, sym, ◌∙◌}
+use Rattle.std.proofs.Common.{◌≡◌, ◌≢◌, ℕ, true, Option, Some, None, List, refl, ap, sym, ◌∙◌}
 use Rattle.php_token.specs.declared.kind.Keyword as word
 use Rattle.php_token.specs.declared.kind.Keyword.TheVariants as keyword
 use Rattle.php_token.specs.Token.{Token, token_at}
@@ -10,15 +10,14 @@ use Rattle.php_ast.specs.expression.Tree.{named, reserved}
 use Rattle.php_ast.specs.expression.View.{Note, spot_view}
 use Rattle.php_ast.specs.expression.Placed.{notes_of}
 use Rattle.php_ast.specs.expression.Proper.{may_name}
-use Rattle.php_grammar.specs.expression.Role.{Mark, item_mark, reserved_if}
-use Rattle.php_reader.specs.RoleView.{IsMark}
+use Rattle.php_grammar.specs.expression.Role.{reserved_if}
 use Rattle.php_token.specs.declared.kind.TokenKind.TheVariants.{Variable, Keyword}
 use Rattle.php_ast.specs.declared.spot.Name.{Name}
 use Rattle.php_ast.specs.declared.expression.Member.TheVariants as member
 use Rattle.php_ast.specs.Symbol.{symbol_of}
 use Rattle.php_ast.specs.expression.Tree.{held}
 use Rattle.php_grammar.specs.expression.Role.{member_of}
-use Rattle.php_reader.specs.Seen.{Stands, Words, ShowsWord, ShowsMember, IsNamed, SeesMark, head_mark, head_member, head_word, rest}
+use Rattle.php_reader.specs.Seen.{Stands, Words, ShowsWord, ShowsMember, IsNamed, head_member, head_word, rest}
 
 word_by : (tokens : List Token) (at : ℕ) (k : Option word.Keyword) (spot : Spot) (text : List ℕ) → Stands tokens at (symbol (token_at tokens at)) → Words (token_at tokens at).kind (Some k)
     → spot_view spot ≡ (notes_of tokens).token at → text ≡ (token_at tokens at).text → ShowsWord tokens at (Some (record { spot = spot; text = text; keyword = k }))
@@ -48,10 +47,6 @@ keyword_words k h = (h, λ text value. ap (λ b. reserved_if b k) h)
 pub word_shown : (tokens : List Token) (at : ℕ) (w : Word) → Stands tokens at (symbol (token_at tokens at)) → Words (token_at tokens at).kind (Some w.keyword)
     → spot_view w.spot ≡ (notes_of tokens).token at → w.text ≡ (token_at tokens at).text → ShowsWord tokens at (Some w)
 word_shown tokens at w stands h noted is = word_by tokens at w.keyword w.spot w.text stands h noted is
-
-pub marks_seen : (tokens : List Token) (at : ℕ) (m : Mark) (b : Bool) → Stands tokens at (symbol (token_at tokens at)) → IsMark (item_mark (symbol (token_at tokens at))) m b → SeesMark m tokens at b
-marks_seen tokens at m true stands h = record { token = symbol (token_at tokens at); stands = stands; role_is = h }
-marks_seen tokens at m false stands h = λ e. h (sym (ap head_mark stands.is) ∙ e)
 
 pub variable_shown : (tokens : List Token) (at : ℕ) (n : Name) → Stands tokens at (symbol (token_at tokens at)) → (token_at tokens at).kind ≡ Variable → IsNamed tokens at n → ShowsMember tokens at (Some (member.Variable n))
 variable_shown tokens at n stands kind is = (

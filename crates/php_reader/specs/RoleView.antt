@@ -1,13 +1,16 @@
 -- From the roles of tokens in the program to those of the grammar.
-use Rattle.std.specs.Prelude.{◌≡◌, ◌≢◌, ℕ, Bool, true, false, Option, Some, None, List}
+use Rattle.std.specs.Prelude.{◌≡◌, ◌≢◌, ℕ, Option, Some, None, List}
 use Rattle.php_ast.specs.expression.Tree.{Leaf, variable, int, string, name, magic, parentheses, emptiness, array, is_set, thin, colons}
-use Rattle.php_grammar.specs.expression.Role.{Beginning, at_leaf, at_static, at_template, at_exit, at_new, at_yield, at_enclosed, at_listed, at_prefix, at_nothing, beginning, Draw, by_binary, by_instance_of, by_choice, by_assign, by_count, by_call, by_index, by_select, Continuation, draws, closes, neither, Mark}
+use Rattle.php_grammar.specs.expression.Role.{Beginning, at_leaf, at_static, at_template, at_exit, at_new, at_yield, at_enclosed, at_listed, at_prefix, at_nothing, beginning, Draw, by_binary, by_instance_of, by_choice, by_assign, by_count, by_call, by_index, by_select, Continuation, draws, closes, neither, Mark, refers, spreads, ends_item, begins}
 use Rattle.php_reader.specs.declared.role.LeafKind.{LeafKind}
 use Rattle.php_reader.specs.declared.role.LeafKind.TheVariants as leaf
 use Rattle.php_reader.specs.declared.role.Opening.{Opening}
 use Rattle.php_reader.specs.declared.role.Opening.TheVariants as opening
 use Rattle.php_reader.specs.declared.role.Start.{Start}
 use Rattle.php_reader.specs.declared.role.Start.TheVariants as start
+use Rattle.php_reader.specs.declared.role.Mark as rust_mark
+use Rattle.php_reader.specs.declared.role.Mark.TheVariants as rust_mark_of
+use Rattle.php_reader.specs.declared.role.Due.{Due}
 use Rattle.php_reader.specs.declared.role.Infix.{Infix}
 use Rattle.php_reader.specs.declared.role.Infix.TheVariants as operator
 use Rattle.php_reader.specs.declared.role.Tail.{Tail}
@@ -17,7 +20,7 @@ use Rattle.php_reader.specs.declared.role.ClassKind.TheVariants as class_kind
 use Rattle.php_reader.specs.declared.role.Mold as rust_mold
 use Rattle.php_reader.specs.declared.role.Mold.TheVariants as mold
 use Rattle.php_ast.specs.expression.Tree.{Class, class_name, class_static, class_found, from}
-use Rattle.php_reader.specs.Seen.{Mold, is_bytes, is_opened, is_over, is_other, NoOperand, head_beginning, rest, Shows}
+use Rattle.php_reader.specs.Seen.{Mold, is_bytes, is_opened, is_over, is_other, NoOperand, head_beginning, rest, Shows, Starts, Marks}
 use Rattle.php_token.specs.Token.{Token, token_at}
 use Rattle.php_reader.specs.declared.role.Next.{Next}
 use Rattle.php_reader.specs.declared.role.Next.TheVariants as next
@@ -66,10 +69,16 @@ next_view (next.Suffix first) = draws (tail_view first)
 next_view (next.Closes closer) = closes closer
 next_view next.Neither = neither
 
--- whether it is this mark
-abbrev pub IsMark : Mark → Mark → Bool → Type 0
-IsMark x mark true = x ≡ mark
-IsMark x mark false = x ≢ mark
+abbrev pub mark_view : rust_mark.Mark → Mark
+mark_view rust_mark_of.Reference = refers
+mark_view rust_mark_of.Spread = spreads
+mark_view (rust_mark_of.Ends closer) = ends_item closer
+mark_view rust_mark_of.Begins = begins
+
+-- what the token at a place is where an expression or a mark is due
+pub record IsDue (tokens : List Token) (at : ℕ) (due : Due) : Type 0 where
+  pub starts : Starts tokens at (start_view due.start (token_at tokens at).text)
+  pub marks : Marks tokens at (mark_view due.mark)
 
 abbrev pub class_kind_view : Option ClassKind → List ℕ → Option (Class (Unit {0}))
 class_kind_view None text = None

@@ -55,11 +55,16 @@ abbrev pub Starts : List Token → ℕ → Beginning → Type 0
 Starts tokens at at_nothing = head_beginning (rest tokens at) ≡ at_nothing
 Starts tokens at x = Shows beginning tokens at x
 
--- where an item is due
+-- where an item is due; nothing is marked at the end
 abbrev pub head_mark : List Symbol → Mark
 head_mark [] = begins
 head_mark (t ∷ w) = item_mark t
 
+abbrev pub Marks : List Token → ℕ → Mark → Type 0
+Marks tokens at begins = head_mark (rest tokens at) ≡ begins
+Marks tokens at x = Shows item_mark tokens at x
+
+-- whether it is this mark
 abbrev pub SeesMark : Mark → List Token → ℕ → Bool → Type 0
 SeesMark mark tokens at true = Shows item_mark tokens at mark
 SeesMark mark tokens at false = head_mark (rest tokens at) ≢ mark

@@ -4,17 +4,17 @@ ghost use Rattle.std.specs.Prelude.{◌≡◌, ◌≢◌, ◌<◌, ◌^◌, ◌+
 ghost use Rattle.php_ast.specs.Symbol.{symbol};
 ghost use Rattle.php_token.specs.Token.{Token, token_at};
 ghost use Rattle.php_ast.specs.expression.Proper.{may_name};
-ghost use Rattle.php_grammar.specs.expression.Role.{closes, continuation, refers, spreads, is_ampersand, is_colon, is_left_brace, is_paren, is_right_bracket, is_right_paren};
+ghost use Rattle.php_grammar.specs.expression.Role.{closes, continuation, refers, spreads, is_ampersand, is_colon, is_left_brace, is_paren, is_right_paren};
 ghost use Rattle.php_grammar.specs.expression.Laws.{head_continuation};
 ghost use Rattle.php_ast.specs.expression.Placed.{notes_of};
 ghost use Rattle.php_ast.specs.expression.View.{spot_view};
-ghost use Rattle.php_reader.specs.Seen.{Stands, Shows, rest, Follows, Starts, SeesMark, Tests, IsNamed, ShowsWord, ShowsMember, Words, head_member, head_word, SeesClass, SeesMold};
+ghost use Rattle.php_reader.specs.Seen.{Stands, Shows, rest, Follows, Starts, Marks, SeesMark, Tests, IsNamed, ShowsWord, ShowsMember, Words, head_member, head_word, SeesClass, SeesMold};
 ghost use Rattle.php_reader.specs.RoleView.{SeesOpening};
 ghost use Rattle.php_token.specs.declared.kind.TokenKind.TheVariants.{Int, Variable};
-ghost use Rattle.php_reader.specs.RoleView.{next_view, start_view, class_kind_view, mold_view};
+ghost use Rattle.php_reader.specs.RoleView.{next_view, start_view, mark_view, class_kind_view, mold_view};
 
 use crate::role::{
-    ClassKind, Mold, Next, Opening, Start, class_kind, is_reference, is_spread, mold_of, next_of,
+    ClassKind, Due, Mark, Mold, Next, Opening, Start, class_kind, due_of, mold_of, next_of,
     start_of,
 };
 use php_ast::{Member, Name, Spot, Word};
@@ -55,6 +55,21 @@ pub fn start_at(tokens: &Tokens, at: usize) -> Start
     start_of(kind, value_at(tokens, at, kind))
 }
 
+/// What the token at a place is where an expression is due, or a mark before it or in its place.
+pub fn due_at(tokens: &Tokens, at: usize) -> Due
+    ensures starts { Starts tokens.now at (start_view result.start (token_at tokens.now at).text) }
+    ensures marks { Marks tokens.now at (mark_view result.mark) }
+{
+    if !stands(tokens, at) {
+        return Due {
+            start: Start::Nothing,
+            mark: Mark::Begins,
+        };
+    }
+    let kind = tokens.kind(at);
+    due_of(kind, value_at(tokens, at, kind))
+}
+
 /// What the token at a place begins where only an operand may stand.
 pub fn opening_at(tokens: &Tokens, at: usize) -> Option<Opening>
     ensures { SeesOpening tokens.now at result }
@@ -75,24 +90,29 @@ pub fn next_at(tokens: &Tokens, at: usize) -> Next
     next_of(tokens.kind(at))
 }
 
-/// Whether `...` stands at a place.
-pub fn sees_spread(tokens: &Tokens, at: usize) -> bool
-    ensures { SeesMark spreads tokens.now at result }
+/// Whether a token with this mark is `...`.
+pub fn is_spread(mark: Mark) -> bool
+    ensures { (tokens : List Token) (at : ℕ) → Marks tokens at (mark_view mark) → SeesMark spreads tokens at result }
 {
-    if !stands(tokens, at) {
-        return false;
-    }
-    is_spread(tokens.kind(at))
+    matches!(mark, Mark::Spread)
 }
 
-/// Whether `&` stands where an item is due.
-pub fn sees_reference(tokens: &Tokens, at: usize) -> bool
-    ensures { SeesMark refers tokens.now at result }
+/// Whether a token with this mark is `&`.
+pub fn is_reference(mark: Mark) -> bool
+    ensures { (tokens : List Token) (at : ℕ) → Marks tokens at (mark_view mark) → SeesMark refers tokens at result }
 {
-    if !stands(tokens, at) {
-        return false;
+    matches!(mark, Mark::Reference)
+}
+
+/// Whether a token with this mark is the one that ends what stands before it so.
+pub fn ended_by(mark: Mark, closer: Closer) -> bool
+    ensures yes { result ≡ true → (tokens : List Token) (at : ℕ) → Marks tokens at (mark_view mark) → Shows continuation tokens at (closes closer) }
+    ensures no { result ≡ false → (tokens : List Token) (at : ℕ) → Marks tokens at (mark_view mark) → head_continuation (rest tokens at) ≢ closes closer }
+{
+    match mark {
+        Mark::Ends(found) => found == closer,
+        _ => false,
     }
-    is_reference(tokens.kind(at))
 }
 
 /// Whether a token that does this behind an expression is the one that ends it so.
@@ -126,13 +146,6 @@ pub fn sees_right_paren(tokens: &Tokens, at: usize) -> bool
     ensures { Tests is_right_paren tokens.now at result }
 {
     stands(tokens, at) && matches!(tokens.kind(at), TokenKind::Punct(Punct::RightParen))
-}
-
-/// Whether `]` stands at a place.
-pub fn sees_right_bracket(tokens: &Tokens, at: usize) -> bool
-    ensures { Tests is_right_bracket tokens.now at result }
-{
-    stands(tokens, at) && matches!(tokens.kind(at), TokenKind::Punct(Punct::RightBracket))
 }
 
 /// Whether `{` stands at a place.

@@ -2,11 +2,13 @@
 
 ghost use Rattle.std.specs.Prelude.{◌≡◌, ℕ, ℤ, List, true, false};
 ghost use Rattle.php_ast.specs.Symbol.{symbol_of};
-ghost use Rattle.php_grammar.specs.expression.Role.{beginning, beginning_keyword, beginning_punct, beginning_cast, continuation, continuation_keyword, continuation_punct, item_mark, draw_strength, draws, at_leaf, refers, spreads};
+ghost use Rattle.php_ast.specs.Symbol as sort;
+ghost use Rattle.php_grammar.specs.expression.Role.{beginning, beginning_keyword, beginning_punct, beginning_cast, continuation, continuation_keyword, continuation_punct, item_mark, draw_strength, draws, at_leaf};
 ghost use Rattle.php_grammar.specs.expression.Role as role;
 ghost use Rattle.php_ast.specs.expression.Tree as tree;
-ghost use Rattle.php_reader.specs.RoleView.{start_view, leaf_view, next_view, infix_view, tail_view, IsMark, class_kind_view, mold_view};
+ghost use Rattle.php_reader.specs.RoleView.{start_view, leaf_view, next_view, infix_view, tail_view, mark_view, class_kind_view, mold_view};
 ghost use Rattle.php_reader.specs.Seen.{named_class, mold};
+ghost use Rattle.php_reader.specs.declared.role.Start.TheVariants.{Nothing};
 
 use crate::limit::{CALL_STRENGTH, SELECT_STRENGTH};
 use php_ast::{
@@ -46,6 +48,26 @@ pub enum Start {
     Prefix(Prefix),
     Yield,
     Nothing,
+}
+
+/// What a token is where an item of a list is due, other than the beginning of one.
+#[derive(Clone, Copy)]
+pub enum Mark {
+    /// `&`
+    Reference,
+    /// `...`
+    Spread,
+    /// A token that ends what stands before it.
+    Ends(Closer),
+    /// None of these. It may begin an expression.
+    Begins,
+}
+
+/// What a token is where an expression is due, or a mark before it or in its place. A mark begins nothing.
+#[derive(Clone, Copy)]
+pub struct Due {
+    pub start: Start,
+    pub mark: Mark,
 }
 
 /// An operator behind its left side.
@@ -185,6 +207,52 @@ pub fn start_of(kind: TokenKind, value: i64) -> Start
     }
 }
 
+fn marked(mark: Mark) -> Due
+    ensures starts { result.start ≡ Nothing }
+    ensures marks { result.mark ≡ mark }
+{
+    Due {
+        start: Start::Nothing,
+        mark,
+    }
+}
+
+fn due_of_punct(punct: Punct) -> Due
+    ensures starts { (text : List ℕ) → beginning_punct punct ≡ start_view result.start text }
+    ensures marks { item_mark (sort.punct punct) ≡ mark_view result.mark }
+{
+    match punct {
+        Punct::Ampersand => marked(Mark::Reference),
+        Punct::Ellipsis => marked(Mark::Spread),
+        Punct::RightParen => marked(Mark::Ends(Closer::Paren)),
+        Punct::RightBracket => marked(Mark::Ends(Closer::Bracket)),
+        Punct::RightBrace => marked(Mark::Ends(Closer::Brace)),
+        Punct::Comma => marked(Mark::Ends(Closer::Comma)),
+        Punct::DoubleArrow => marked(Mark::Ends(Closer::DoubleArrow)),
+        Punct::Colon => marked(Mark::Ends(Closer::Colon)),
+        Punct::Semicolon => marked(Mark::Ends(Closer::Semicolon)),
+        _ => Due {
+            start: start_of_punct(punct),
+            mark: Mark::Begins,
+        },
+    }
+}
+
+/// Of a token of a kind, with its value where it is an integer, where an expression or a mark is due.
+pub fn due_of(kind: TokenKind, value: i64) -> Due
+    ensures starts { (text : List ℕ) → beginning (symbol_of kind text value) ≡ start_view result.start text }
+    ensures marks { (text : List ℕ) (other : ℤ) → item_mark (symbol_of kind text other) ≡ mark_view result.mark }
+{
+    match kind {
+        TokenKind::Punct(punct) => due_of_punct(punct),
+        TokenKind::EndPart => marked(Mark::Ends(Closer::EndPart)),
+        _ => Due {
+            start: start_of(kind, value),
+            mark: Mark::Begins,
+        },
+    }
+}
+
 fn binary(op: Binary) -> Next
     ensures { next_view result ≡ draws (role.by_binary op) }
 {
@@ -294,20 +362,6 @@ pub fn tail_strength(tail: Tail) -> u8
         Tail::Index | Tail::Property | Tail::Member => SELECT_STRENGTH,
         Tail::Call => CALL_STRENGTH,
     }
-}
-
-/// Whether it is `...`.
-pub fn is_spread(kind: TokenKind) -> bool
-    ensures { (text : List ℕ) (value : ℤ) → IsMark (item_mark (symbol_of kind text value)) spreads result }
-{
-    matches!(kind, TokenKind::Punct(Punct::Ellipsis))
-}
-
-/// Whether it is `&`.
-pub fn is_reference(kind: TokenKind) -> bool
-    ensures { (text : List ℕ) (value : ℤ) → IsMark (item_mark (symbol_of kind text value)) refers result }
-{
-    matches!(kind, TokenKind::Punct(Punct::Ampersand))
 }
 
 /// What a token of a kind begins behind `new`.

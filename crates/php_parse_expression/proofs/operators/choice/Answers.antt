@@ -5,28 +5,34 @@ use Rattle.php_parse_operands.proofs.Fails.{between}
 use Rattle.php_parse_operands.proofs.Moves.{leads, inside}
 use Rattle.php_parse_expression.proofs.Pendings.{onward_behind}
 use Rattle.php_parse_expression.proofs.Joins.{short_opens, short_spans, then_opens, then_unclosed}
+use Rattle.php_token.specs.declared.kind.Punct.TheVariants as mark
+use Rattle.php_ast.specs.Symbol.{punct}
+use Rattle.php_grammar.specs.declared.closer.Closer.TheVariants as ender
+use Rattle.php_grammar.specs.expression.Role.{closes, is_colon}
+use Rattle.php_grammar.proofs.expression.Roles.{colon_says}
+use Rattle.php_reader.proofs.Items.{shows_one, tests_none}
 use Rattle.php_parse_expression.proofs.operators.choice.Goals as goal
 
 pub returns-in-Err : goal.returns-in-Err
 returns-in-Err g c = λ f start spans is.
     let o = c.requires.here in
     rw c.discard.ensures (between c.args.parser.now.reader.tokens.now c.args.left.next (c.args.left.next + 1) (then_open f) c.in-Err.stop (omega arith) c.args.parser.now.deep refl (λ d. refl)
-    (then_opens o.token f o.stands.is o.role_is c.requires.near (omega arith) c.if-sees_colon.ensures c.args.parser.now.deep) c.in-Err.ensures)
+    (then_opens o.token f o.stands.is o.role_is c.requires.near (omega arith) (tests_none is_colon (closes ender.Colon) (punct mark.Colon) _ colon_says refl (c.if-ended_by.ensures.no refl _ _ c.due_at-due.ensures.marks)) c.args.parser.now.deep) c.in-Err.ensures)
 
 pub returns-then-not-closed_by : goal.returns-then-not-closed_by
 returns-then-not-closed_by g c = λ f start spans is.
     let o = c.requires.here in
     let r = c.in-Ok.ensures in
     rw (c.discard-then-not-closed_by.ensures, c.unclosed.ensures) (record {
-      halts = then_unclosed f r.form (omega arith) (then_opens o.token f o.stands.is o.role_is c.requires.near (omega arith) c.if-sees_colon.ensures c.args.parser.now.deep) r.reads c.args.parser.now.deep r.rests (c.if-not-closed_by.ensures.no refl _ _ r.follows);
+      halts = then_unclosed f r.form (omega arith) (then_opens o.token f o.stands.is o.role_is c.requires.near (omega arith) (tests_none is_colon (closes ender.Colon) (punct mark.Colon) _ colon_says refl (c.if-ended_by.ensures.no refl _ _ c.due_at-due.ensures.marks)) c.args.parser.now.deep) r.reads c.args.parser.now.deep r.rests (c.if-not-closed_by.ensures.no refl _ _ r.follows);
       ahead = omega (arith, r.ahead);
       within = r.within;
     })
 
-pub returns-then-sees_colon : goal.returns-then-sees_colon
-returns-then-sees_colon g c = λ f start spans is.
+pub returns-then-ended_by : goal.returns-then-ended_by
+returns-then-ended_by g c = λ f start spans is.
     let o = c.requires.here in
-    let u = c.if-sees_colon.ensures in (
+    let u = shows_one is_colon (closes ender.Colon) (punct mark.Colon) _ _ (λ t h. h) refl (c.if-ended_by.ensures.yes refl _ _ c.due_at-due.ensures.marks) in (
       record {
         form = short_open f;
         reads = short_opens o.token u.token f o.stands.is o.role_is c.requires.near (omega arith) u.stands.is u.role_is c.args.parser.now.deep;
@@ -48,7 +54,7 @@ returns g c = λ f start spans is.
     let o = c.requires.here in
     let r = c.in-Ok.ensures in
     onward_behind c.args.parser.now.reader.tokens.now start c.args.left.next _ (λ s. holds r.form (then_open f ∷ s)) _ (omega (arith, r.ahead))
-    (leads (λ s. expects (then_open f ∷ s)) (then_opens o.token f o.stands.is o.role_is c.requires.near (omega arith) c.if-sees_colon.ensures c.args.parser.now.deep)
+    (leads (λ s. expects (then_open f ∷ s)) (then_opens o.token f o.stands.is o.role_is c.requires.near (omega arith) (tests_none is_colon (closes ender.Colon) (punct mark.Colon) _ colon_says refl (c.if-ended_by.ensures.no refl _ _ c.due_at-due.ensures.marks)) c.args.parser.now.deep)
     (inside (c.args.parser.now.reader.room - 1) LEAST_POWER (then_open f) (inl refl) (omega arith) (λ d. omega arith) r.reads))
     (c.half_choice.ensures (omega arith) f r.form start spans r.spans)
 

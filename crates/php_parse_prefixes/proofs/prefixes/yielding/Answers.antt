@@ -14,17 +14,18 @@ use Rattle.php_parse_prefixes.proofs.Founds.{behind}
 use Rattle.php_parse_prefixes.proofs.Fronts.{operator_reads, operator_rests, yield_opens, yield_nothing_reads, yield_ends_low, yield_spans, arrow_is}
 use Rattle.php_parse_prefixes.proofs.prefixes.yielding.Goals as goal
 
-pub returns-then-yields_nothing : goal.returns-then-yields_nothing
-returns-then-yields_nothing g c =
+pub returns-in-Some : goal.returns-in-Some
+returns-in-Some g c =
     let o = c.requires.here in
-    let alone = ap ends_yield (follows_head c.args.parser.now.reader.tokens.now (c.args.at + 1) _ c.next_at-behind.ensures) ∙ sym c.yields_nothing.ensures ∙ c.if-yields_nothing.true in
+    let l = (rw c.in-Some.is at c.lone_yield.ensures) c.args.parser.now.reader.tokens.now (c.args.at + 1) c.due_at-due.ensures.marks in
+    let alone = ap ends_yield (follows_head c.args.parser.now.reader.tokens.now (c.args.at + 1) _ l.0) ∙ l.1 in
     record {
       form = yield_nothing tt;
       spans = record { shown = c.yield_nothing_expr.ensures.shown ∙ ap yield_nothing c.spot.ensures; sized = omega arith };
       reads = yield_nothing_reads o.token o.stands.is o.role_is alone c.args.parser.now.deep;
       edge_is = refl;
       rests = inl (yield_ends_low (head_continuation (rest c.args.parser.now.reader.tokens.now (c.args.at + 1))) alone);
-      follows = c.next_at-behind.ensures;
+      follows = l.0;
       bare = λ h. alone;
       ahead = omega arith;
       within = omega (arith, o.stands.within);
@@ -36,7 +37,7 @@ returns-in_err-value g c =
     let o = c.requires.here in
     let q = err_from_is_err_and c.from_residual.result c.from_residual.ensures.1 in
     rw (q.1, q.2) (within c.args.parser.now.reader.tokens.now c.args.at (c.args.at + 1) (c.args.parser.now.reader.room - 1) c.yielded_power.result yield_open c.in_err-value.field-0.0 (omega arith) (inr (omega arith)) (omega arith) (λ d. omega arith)
-    (yield_opens o.token o.stands.is o.role_is (ap ends_yield (follows_head c.args.parser.now.reader.tokens.now (c.args.at + 1) _ c.next_at-behind.ensures) ∙ sym c.yields_nothing.ensures ∙ c.if-yields_nothing.false) c.args.parser.now.deep) c.in_err-value.ensures)
+    (yield_opens o.token o.stands.is o.role_is ((rw c.in_default.is at c.lone_yield.ensures) _ _ c.due_at-due.ensures.marks) c.args.parser.now.deep) c.in_err-value.ensures)
 
 pub yield_pair-requires-clause-arrow : goal.yield_pair-requires-clause-arrow
 yield_pair-requires-clause-arrow g c = c.if-closed_by.ensures.yes refl _ _ c.in_ok-value.ensures.follows
@@ -46,7 +47,7 @@ returns-then-closed_by g c =
     let o = c.requires.here in
     let r = c.in_ok-value.ensures in
     behind free c.args.parser.now.reader.tokens.now c.args.at c.args.at _ (λ s. holds r.form (yield_open ∷ s)) _ (omega (arith, r.ahead))
-    (leads (λ s. expects (yield_open ∷ s)) (yield_opens o.token o.stands.is o.role_is (ap ends_yield (follows_head c.args.parser.now.reader.tokens.now (c.args.at + 1) _ c.next_at-behind.ensures) ∙ sym c.yields_nothing.ensures ∙ c.if-yields_nothing.false) c.args.parser.now.deep)
+    (leads (λ s. expects (yield_open ∷ s)) (yield_opens o.token o.stands.is o.role_is ((rw c.in_default.is at c.lone_yield.ensures) _ _ c.due_at-due.ensures.marks) c.args.parser.now.deep)
     (inside (c.args.parser.now.reader.room - 1) c.yielded_power.result yield_open (inr (omega arith)) (omega arith) (λ d. omega arith) r.reads))
     (c.yield_pair.ensures r.form r.spans)
 
@@ -59,7 +60,7 @@ returns g c =
       form = yield_value tt r.form;
       spans = yield_spans c.args.parser.now.reader.tokens.now _ _ _ r.form c.args.at _ c.in_ok-yield_value_expr.ensures.shown c.spot-2.ensures r.spans;
       reads = operator_reads yield_open r.form (c.args.parser.now.reader.room - 1) c.yielded_power.result (omega arith) (omega arith) (omega arith) c.yielded_power.ensures (λ h. absurd (shut (arrow_is _ h))) (λ d. omega arith)
-          (yield_opens o.token o.stands.is o.role_is (ap ends_yield (follows_head c.args.parser.now.reader.tokens.now (c.args.at + 1) _ c.next_at-behind.ensures) ∙ sym c.yields_nothing.ensures ∙ c.if-yields_nothing.false) c.args.parser.now.deep) r.reads r.rests;
+          (yield_opens o.token o.stands.is o.role_is ((rw c.in_default.is at c.lone_yield.ensures) _ _ c.due_at-due.ensures.marks) c.args.parser.now.deep) r.reads r.rests;
       edge_is = omega (arith, r.edge_is);
       rests = operator_rests yield_open r.form c.yielded_power.result _ (omega arith) (omega arith) c.yielded_power.ensures r.rests;
       follows = r.follows;

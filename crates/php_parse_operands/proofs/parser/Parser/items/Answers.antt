@@ -30,17 +30,17 @@ loop-form-init g c = record {
 pub returns-then-self-eq1 : goal.returns-then-self-eq1
 returns-then-self-eq1 g c =
     let v = c.loop-form.invariant in
-    let e = c.if-closed_by.ensures.yes refl _ _ c.next_at-due.ensures in
+    let e = c.if-ended_by.ensures.yes refl _ _ c.due_at-due.ensures.marks in
     record {
       halts = leads_halts (λ s. past_items (of_list (array c.args.form)) v.items s) v.reads (end_halts e.token c.args.form v.items e.stands.is (e.role_is ∙ ap closes c.closer_of.ensures) c.if-self-eq1.true);
       ahead = omega (arith, v.sized);
       within = v.within;
     }
 
-pub returns-then-closed_by : goal.returns-then-closed_by
-returns-then-closed_by g c =
+pub returns-then-ended_by : goal.returns-then-ended_by
+returns-then-ended_by g c =
     let v = c.loop-form.invariant in
-    let e = c.if-closed_by.ensures.yes refl _ _ c.next_at-due.ensures in
+    let e = c.if-ended_by.ensures.yes refl _ _ c.due_at-due.ensures.marks in
     let deep = c.args.self.now.deep in
     record {
       items = ended_items v.items;
@@ -54,17 +54,17 @@ returns-then-closed_by g c =
 pub returns-then-self-eq1-2 : goal.returns-then-self-eq1-2
 returns-then-self-eq1-2 g c =
     let v = c.loop-form.invariant in
-    let e = c.if-closed_by-2.ensures.yes refl _ _ c.next_at-due.ensures in
+    let e = c.if-ended_by-2.ensures.yes refl _ _ c.due_at-due.ensures.marks in
     record {
       halts = leads_halts (λ s. past_items (of_list (array c.args.form)) v.items s) v.reads (missing_halts e.token c.args.form v.items e.stands.is e.role_is c.if-self-eq1-2.true);
       ahead = omega (arith, v.sized);
       within = v.within;
     }
 
-pub loop-form-preserved-then-closed_by-2 : goal.loop-form-preserved-then-closed_by-2
-loop-form-preserved-then-closed_by-2 g c =
+pub loop-form-preserved-then-ended_by-2 : goal.loop-form-preserved-then-ended_by-2
+loop-form-preserved-then-ended_by-2 g c =
     let v = c.loop-form.invariant in
-    let e = c.if-closed_by-2.ensures.yes refl _ _ c.next_at-due.ensures in
+    let e = c.if-ended_by-2.ensures.yes refl _ _ c.due_at-due.ensures.marks in
     let deep = c.args.self.now.deep in
     record {
       items = skip v.items;
@@ -82,11 +82,11 @@ returns-in_err-entry g c =
     let q = err_from_is_err_and c.from_residual-in_err-entry.result c.from_residual-in_err-entry.ensures.1 in
     rw (q.1, q.2) (later c.args.self.now.reader.tokens.now c.args.at c.loop-form.next (λ s. past_items (of_list (array c.args.form)) v.items s) c.in_err-entry.field-0.0 (omega (arith, v.sized)) v.reads (c.in_err-entry.ensures v.items))
 
-pub returns-then-closed_by-3 : goal.returns-then-closed_by-3
-returns-then-closed_by-3 g c =
+pub returns-then-closed_by : goal.returns-then-closed_by
+returns-then-closed_by g c =
     let v = c.loop-form.invariant in
     let i = c.in_ok-entry.ensures in
-    let e = c.if-closed_by-3.ensures.yes refl _ _ i.follows in
+    let e = c.if-closed_by.ensures.yes refl _ _ i.follows in
     record {
       items = and v.items i.lead i.form;
       spans = record {
@@ -95,7 +95,7 @@ returns-then-closed_by-3 g c =
       };
       flat = all_push item_flat (item_with shape) c.loop-form.items _ _ c.in_ok-push-2.ensures.ok v.flat i.flat;
       reads = leads (λ s. past_items (of_list (array c.args.form)) v.items s) v.reads (leads (λ s. holds i.form (items_open (of_list (array c.args.form)) v.items i.lead ∷ s)) (i.reads v.items)
-          (array_reads e.token c.args.form v.items i.lead i.form e.stands.is (e.role_is ∙ ap closes c.closer_of-else-closed_by-2.ensures) i.deep));
+          (array_reads e.token c.args.form v.items i.lead i.form e.stands.is (e.role_is ∙ ap closes c.closer_of-else-ended_by-2.ensures) i.deep));
       ahead = omega (arith, v.sized, i.ahead);
       within = omega (arith, e.stands.within);
     }
@@ -107,7 +107,7 @@ returns-then-not-closed_by g c =
     record {
       halts = leads_halts (λ s. past_items (of_list (array c.args.form)) v.items s) v.reads (leads_halts (λ s. holds i.form (items_open (of_list (array c.args.form)) v.items i.lead ∷ s)) (i.reads v.items)
           (item_unclosed (of_list (array c.args.form)) v.items i.lead i.form i.rests
-          (shut_array c.args.form i.lead _ (c.if-not-closed_by.ensures.no refl _ _ i.follows) (λ h. c.if-closed_by-3.ensures.no refl _ _ i.follows (h ∙ ap closes (sym c.closer_of-else-closed_by-2.ensures))) i.no_key)));
+          (shut_array c.args.form i.lead _ (c.if-not-closed_by.ensures.no refl _ _ i.follows) (λ h. c.if-closed_by.ensures.no refl _ _ i.follows (h ∙ ap closes (sym c.closer_of-else-ended_by-2.ensures))) i.no_key)));
       ahead = omega (arith, v.sized, i.ahead);
       within = i.within;
     }
@@ -128,8 +128,8 @@ loop-form-preserved g c =
       within = omega (arith, e.stands.within);
     }
 
-pub loop-form-smaller-then-closed_by-2 : goal.loop-form-smaller-then-closed_by-2
-loop-form-smaller-then-closed_by-2 g c = let e = c.if-closed_by-2.ensures.yes refl _ _ c.next_at-due.ensures in omega (arith, e.stands.within)
+pub loop-form-smaller-then-ended_by-2 : goal.loop-form-smaller-then-ended_by-2
+loop-form-smaller-then-ended_by-2 g c = let e = c.if-ended_by-2.ensures.yes refl _ _ c.due_at-due.ensures.marks in omega (arith, e.stands.within)
 
 pub loop-form-smaller : goal.loop-form-smaller
 loop-form-smaller g c =
@@ -138,13 +138,16 @@ loop-form-smaller g c =
     omega (arith, i.ahead, e.stands.within)
 
 pub overflow_add-result : goal.overflow_add-result
-overflow_add-result g c = let e = c.if-closed_by.ensures.yes refl _ _ c.next_at-due.ensures in omega (arith, e.stands.fits)
+overflow_add-result g c = let e = c.if-ended_by.ensures.yes refl _ _ c.due_at-due.ensures.marks in omega (arith, e.stands.fits)
 
 pub overflow_add-next : goal.overflow_add-next
-overflow_add-next g c = let e = c.if-closed_by-2.ensures.yes refl _ _ c.next_at-due.ensures in omega (arith, e.stands.fits)
+overflow_add-next g c = let e = c.if-ended_by-2.ensures.yes refl _ _ c.due_at-due.ensures.marks in omega (arith, e.stands.fits)
 
-pub overflow_add-result-then-closed_by-3 : goal.overflow_add-result-then-closed_by-3
-overflow_add-result-then-closed_by-3 g c = let e = c.if-closed_by-3.ensures.yes refl _ _ c.in_ok-entry.ensures.follows in omega (arith, e.stands.fits)
+pub overflow_add-result-then-closed_by : goal.overflow_add-result-then-closed_by
+overflow_add-result-then-closed_by g c = let e = c.if-closed_by.ensures.yes refl _ _ c.in_ok-entry.ensures.follows in omega (arith, e.stands.fits)
 
-pub overflow_add-next-else-closed_by-2 : goal.overflow_add-next-else-closed_by-2
-overflow_add-next-else-closed_by-2 g c = let e = c.if-not-closed_by.ensures.yes refl _ _ c.in_ok-entry.ensures.follows in omega (arith, e.stands.fits)
+pub overflow_add-next-else-ended_by-2 : goal.overflow_add-next-else-ended_by-2
+overflow_add-next-else-ended_by-2 g c = let e = c.if-not-closed_by.ensures.yes refl _ _ c.in_ok-entry.ensures.follows in omega (arith, e.stands.fits)
+
+pub item-requires-clause-seen : goal.item-requires-clause-seen
+item-requires-clause-seen g c = record { starts = c.due_at-due.ensures.starts; marks = c.due_at-due.ensures.marks }

@@ -22,6 +22,7 @@ loop-items-init g c = record {
   flat = ap are_flat_arguments c.new-items.ensures;
   reads = λ h is. record { same = λ n s whole near at. refl };
   no_end = c.requires.no_end;
+  seen = c.requires.seen;
   within = c.requires.within;
 }
 
@@ -65,12 +66,12 @@ returns-then-not-closed_by g c = λ h is.
       within = i.within;
     }
 
-pub returns-then-ends_with : goal.returns-then-ends_with
-returns-then-ends_with g c = λ h is.
+pub returns-then-ended_by : goal.returns-then-ended_by
+returns-then-ended_by g c = λ h is.
     let v = c.loop-items.invariant in
     let i = c.in_ok-entry.ensures in
     let e = c.if-not-closed_by.ensures.yes refl _ _ i.follows in
-    let p = c.if-ends_with.ensures.yes refl in
+    let p = c.if-ended_by.ensures.yes refl _ _ c.due_at-due.ensures.marks in
     record {
       halts = leads_halts (λ s. past_items h v.items s) (v.reads h is) (leads_halts (λ s. holds i.form (items_open h v.items i.lead ∷ s)) (i.reads h v.items is)
           (leads_halts (λ s. past_items h (and v.items i.lead i.form) s) (comma_reads e.token h v.items i.lead i.form e.stands.is e.role_is i.deep)
@@ -91,7 +92,8 @@ loop-items-preserved g c =
       flat = all_push argument_flat (argument_with shape) c.loop-items.items _ _ c.in_ok-push.ensures.ok v.flat i.flat;
       reads = λ h is. leads (λ s. past_items h v.items s) (v.reads h is) (leads (λ s. holds i.form (items_open h v.items i.lead ∷ s)) (i.reads h v.items is)
           (comma_reads e.token h v.items i.lead i.form e.stands.is e.role_is i.deep));
-      no_end = c.if-ends_with.ensures.no refl;
+      no_end = c.if-ended_by.ensures.no refl _ _ c.due_at-due.ensures.marks;
+      seen = record { starts = c.due_at-due.ensures.starts; marks = c.due_at-due.ensures.marks };
       within = omega (arith, e.stands.within);
     }
 

@@ -2,7 +2,7 @@ use Rattle.std.proofs.Common.{sym, subst}
 use Rattle.php_grammar.specs.expression.Machine.{expects}
 use Rattle.php_parse_operands.specs.Answer.{Fails}
 use Rattle.php_reader.specs.Seen.{rest}
-use Rattle.php_parse_expression.proofs.expression.+read_expression.Goals as goal
+use Rattle.php_parse_expression.proofs.expression.+read_begun.Goals as goal
 
 pub returns-then-reader-eq0 : goal.returns-then-reader-eq0
 returns-then-reader-eq0 t c =

@@ -1,4 +1,0 @@
-use Rattle.php_parse_expression.proofs.expression.+read_expression.Given as goal
-
-abbrev pub decreases-read_expression : goal.decreases-read_expression
-decreases-read_expression l = l.reader.now.room
