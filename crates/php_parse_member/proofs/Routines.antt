@@ -27,7 +27,7 @@ use Rattle.php_parse_signature.specs.Walk as signature
 use Rattle.php_parse_signature.specs.Answer as signed
 use Rattle.php_parse_simple.specs.Walk as simple
 use Rattle.php_parse_statement.specs.Rows.{IsRow, goes_on, is_some, StopsRow, RowStops, RowFails}
-use Rattle.php_parse_member.specs.declared.read.Marked.{Marked}
+use Rattle.php_reader.specs.declared.found.Marked.{Marked}
 use Rattle.php_parse_member.specs.Walk.{stopped}
 use Rattle.php_parse_member.specs.Answer.{Fails, SeesReference, behind_signature, walk_body}
 use Rattle.php_parse_member.proofs.Moves.{go, sinks, sticks, alike, past_same, past_on, NoneEnds, past_stuck, resumed_stopped}

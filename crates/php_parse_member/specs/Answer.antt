@@ -37,7 +37,7 @@ use Rattle.php_parse_member.specs.declared.read.ReadConstant.{ReadConstant}
 use Rattle.php_parse_member.specs.declared.read.ReadConstants.{ReadConstants}
 use Rattle.php_parse_member.specs.declared.read.ReadProperty.{ReadProperty}
 use Rattle.php_parse_member.specs.declared.read.ReadProperties.{ReadProperties}
-use Rattle.php_parse_member.specs.declared.read.Marked.{Marked}
+use Rattle.php_reader.specs.declared.found.Marked.{Marked}
 use Rattle.php_parse_member.specs.declared.read.FunctionHead.{FunctionHead}
 use Rattle.php_parse_member.specs.declared.read.MethodHead.{MethodHead}
 use Rattle.php_parse_member.specs.declared.read.ReadBody.{ReadBody}

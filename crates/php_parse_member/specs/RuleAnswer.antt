@@ -26,7 +26,7 @@ use Rattle.php_reader.specs.declared.fail.Stop.TheVariants.{NoMemory}
 use Rattle.php_reader.specs.Seen.{rest, head_word}
 use Rattle.php_parse_simple.specs.NameAnswer.{SpansSoFar}
 use Rattle.php_parse_simple.specs.Walk.{head_ending}
-use Rattle.php_parse_member.specs.declared.read.ReadNames.{ReadNames}
+use Rattle.php_reader.specs.declared.found.Listed.{Listed}
 use Rattle.php_parse_member.specs.declared.read.RuleHead.{RuleHead}
 use Rattle.php_parse_member.specs.declared.read.RuleTail.{RuleTail}
 use Rattle.php_parse_member.specs.declared.read.ReadRule.{ReadRule}
@@ -38,16 +38,16 @@ use Rattle.php_parse_member.specs.Answer.{Fails}
 -- ---- names between commas
 
 -- The last name stands in front of what is no comma. Names behind `insteadof` stand one level deeper than traits.
-pub record FoundNames (room : ℕ) (tokens : List Token) (at : ℕ) (r : ReadNames) : Type 0 where
+pub record FoundNames (room : ℕ) (tokens : List Token) (at : ℕ) (r : Listed rust_name.Name) : Type 0 where
   pub names : Names
-  pub shown : names_view r.names ≡ noted_separated size_name (noted_name (notes_of tokens)) at names
+  pub shown : names_view r.items ≡ noted_separated size_name (noted_name (notes_of tokens)) at names
   pub sized : at + size_separated size_name names ≡ r.next
   pub reads : (list : NamesIn) → names_in_depth list + 1 ≤ room → Leads walk_member room (due_trait list empty) (rest tokens at) (past_trait list names) (rest tokens r.next)
   pub no_comma : head_ending (rest tokens r.next) ≢ closer ender.Comma
   pub ahead : at < r.next
   pub within : r.next ≤ length tokens
 
-abbrev pub AnswersNames : Reader → ℕ → Result ReadNames Stop → Type 0
+abbrev pub AnswersNames : Reader → ℕ → Result (Listed rust_name.Name) Stop → Type 0
 AnswersNames reader at (Ok r) = FoundNames reader.room reader.tokens.now at r
 AnswersNames reader at (Err e) =
     (list : NamesIn) → names_in_depth list + 1 ≤ reader.room → Fails walk_member reader.room (due_trait list empty) (rest reader.tokens.now at) reader.tokens.now at e

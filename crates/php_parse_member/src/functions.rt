@@ -8,7 +8,7 @@ ghost use Rattle.php_flat.specs.Declarations.{is_flat_function};
 ghost use Rattle.php_flat.specs.Statements.{are_flat_statements};
 ghost use Rattle.php_parse_member.specs.Answer.{AnswersFunction, AnswersFunctionHead, SeesReference};
 
-use crate::read::{FunctionHead, Marked, ReadFunction};
+use crate::read::{FunctionHead, ReadFunction};
 use php_ast::{FunctionDecl, Spot, Stmt};
 use php_lex::Tokens;
 use php_parse_signature::read_signature;
@@ -16,7 +16,7 @@ use php_parse_simple::look::{bare_name_at, sees};
 use php_parse_simple::role::Fixed;
 use php_parse_statement::read_braced;
 use php_reader::look::{sees_ampersand, spot};
-use php_reader::{Reader, Stop};
+use php_reader::{Marked, Reader, Stop};
 use sqlite_items::Items;
 
 /// Whether `&` stands before a name.

@@ -3,14 +3,14 @@
 ghost use Rattle.std.specs.Prelude.{◌≤◌, length};
 ghost use Rattle.php_parse_member.specs.RuleAnswer.{AnswersNames};
 
-use crate::read::ReadNames;
+use php_ast::Name;
 use php_grammar::Closer;
 use php_parse_simple::look::{bare_name_at, ends};
-use php_reader::{Reader, Stop};
+use php_reader::{Listed, Reader, Stop};
 use sqlite_items::Items;
 
 /// One name or more, with a comma between each two, up to what is no comma.
-pub(crate) fn names_at(reader: &Reader, at: usize) -> Result<ReadNames, Stop>
+pub(crate) fn names_at(reader: &Reader, at: usize) -> Result<Listed<Name>, Stop>
     requires within { at ≤ length reader.now.tokens.now }
     ensures { AnswersNames reader.entry.now at result }
 {
@@ -23,8 +23,8 @@ pub(crate) fn names_at(reader: &Reader, at: usize) -> Result<ReadNames, Stop>
         names.push(name)?;
         let behind = next + 1;
         if !ends(reader.tokens, behind, Closer::Comma) {
-            return Ok(ReadNames {
-                names,
+            return Ok(Listed {
+                items: names,
                 next: behind,
             });
         }

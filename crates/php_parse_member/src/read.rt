@@ -11,13 +11,6 @@ use php_ast::{
 };
 use sqlite_items::Items;
 
-/// Names between commas, and the place behind the last one.
-#[derive(Drop)]
-pub(crate) struct ReadNames {
-    pub(crate) names: Items<Name>,
-    pub(crate) next: usize,
-}
-
 /// A constant and its value, and the place behind it.
 #[derive(Drop)]
 pub(crate) struct ReadConstant {
@@ -77,13 +70,6 @@ pub(crate) struct ReadRule {
 #[derive(Drop)]
 pub(crate) struct ReadRules {
     pub(crate) rules: Items<Rule>,
-    pub(crate) next: usize,
-}
-
-/// Whether `&` stands before a name, and the place of the name.
-#[derive(Clone, Copy)]
-pub(crate) struct Marked {
-    pub(crate) stands: bool,
     pub(crate) next: usize,
 }
 

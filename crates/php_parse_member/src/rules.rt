@@ -174,7 +174,7 @@ fn preference(reader: &Reader, at: usize, head: RuleHead) -> Result<ReadRule, St
     }
     Ok(ReadRule {
         next: others.next + 1,
-        rule: Rule::InsteadOf(spot(reader.tokens, at), class, word, others.names),
+        rule: Rule::InsteadOf(spot(reader.tokens, at), class, word, others.items),
     })
 }
 

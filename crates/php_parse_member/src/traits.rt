@@ -10,13 +10,14 @@ ghost use Rattle.php_parse_member.specs.RuleAnswer.{AnswersNoRules, FoundNames};
 use crate::build::uses_member;
 use crate::look::sees_right_brace;
 use crate::names::names_at;
-use crate::read::{ReadMember, ReadNames};
+use crate::read::ReadMember;
 use crate::rules::rules_at;
+use php_ast::Name;
 use php_grammar::Closer;
 use php_parse_simple::look::{ends, sees};
 use php_parse_simple::role::Fixed;
 use php_reader::look::{spot, word_at};
-use php_reader::{Reader, Stop};
+use php_reader::{Listed, Reader, Stop};
 
 /// Where no level of nesting is left in the braces of the rules, the first token there is nested too deep.
 fn sunk(reader: &Reader, at: usize) -> Stop
@@ -34,7 +35,7 @@ fn sunk(reader: &Reader, at: usize) -> Stop
 }
 
 /// The rules of a `use` behind the `{`, with its traits.
-fn with_rules(reader: &Reader, at: usize, traits: ReadNames) -> Result<ReadMember, Stop>
+fn with_rules(reader: &Reader, at: usize, traits: Listed<Name>) -> Result<ReadMember, Stop>
     requires deep { 1 ≤ reader.now.room }
     requires here { Shows member_role reader.now.tokens.now at at_use }
     requires traits { FoundNames reader.now.room reader.now.tokens.now (at + 1) traits }
@@ -48,7 +49,7 @@ fn with_rules(reader: &Reader, at: usize, traits: ReadNames) -> Result<ReadMembe
     let rules = rules_at(reader, place)?;
     Ok(ReadMember {
         next: rules.next,
-        member: uses_member(spot(reader.tokens, at), traits.names, Some(rules.rules)),
+        member: uses_member(spot(reader.tokens, at), traits.items, Some(rules.rules)),
     })
 }
 
@@ -62,7 +63,7 @@ pub(crate) fn uses(reader: &Reader, at: usize) -> Result<ReadMember, Stop>
     if ends(reader.tokens, traits.next, Closer::Semicolon) {
         return Ok(ReadMember {
             next: traits.next + 1,
-            member: uses_member(spot(reader.tokens, at), traits.names, None),
+            member: uses_member(spot(reader.tokens, at), traits.items, None),
         });
     }
     if !sees(reader.tokens, traits.next, Fixed::LeftBrace) {

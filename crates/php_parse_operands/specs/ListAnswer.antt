@@ -22,9 +22,9 @@ use Rattle.php_grammar.specs.expression.Laws.{head_continuation}
 use Rattle.php_grammar.specs.expression.Machine.{Nothing, Form, Holder, of_list, is_arguments, is_plain, items_open, closed_with, OpenForms, State, holds, past_items, past_value, past_new, past_class, past_template, after}
 use Rattle.php_reader.specs.declared.reader.Reader.{Reader}
 use Rattle.php_reader.specs.declared.fail.Stop.{Stop}
-use Rattle.php_parse_operands.specs.declared.read.Listed.{Listed}
+use Rattle.php_reader.specs.declared.found.Listed.{Listed}
 use Rattle.php_parse_operands.specs.declared.read.Element.{Element}
-use Rattle.php_parse_operands.specs.declared.read.Entry.{Entry}
+use Rattle.php_reader.specs.declared.found.Entry.{Entry}
 use Rattle.php_reader.specs.declared.role.Due.{Due}
 use Rattle.php_reader.specs.RoleView.{next_view, IsDue}
 use Rattle.php_ast.specs.expression.Parts.{argument_with, class_with, item_with, piece_with, step_with}

@@ -12,15 +12,15 @@ ghost use Rattle.php_reader.specs.RoleView.{next_view};
 
 use crate::inner::ReadsInner;
 use crate::parser::Parser;
-use crate::read::{Element, Entry, Read, Taken};
+use crate::read::{Element, Read, Taken};
 use php_ast::{Class, ClassStep, Expr};
 use php_build::build::{new_expr, new_with_expr};
 use php_grammar::Closer;
 use php_lex::Tokens;
-use php_reader::Stop;
 use php_reader::limit::{LEAST_POWER, OPEN_NEW};
 use php_reader::look::{class_at, closed_by, name_at, next_at, spot, word_at};
 use php_reader::role::{ClassKind, Next, Tail};
+use php_reader::{Entry, Stop};
 use sqlite_items::Items;
 use std::alloc::Global;
 

@@ -16,18 +16,18 @@ ghost use Rattle.php_reader.specs.RoleView.{IsDue};
 
 use crate::inner::ReadsInner;
 use crate::parser::Parser;
-use crate::read::{Element, Listed, Read, Taken};
+use crate::read::{Element, Read, Taken};
 use php_ast::{Argument, ArrayForm, Expr, Item};
 use php_build::build::{array_expr, is_set_expr};
 use php_build::parts::ended;
 use php_grammar::Closer;
 use php_lex::Tokens;
-use php_reader::Stop;
 use php_reader::limit::{LEAST_POWER, TOP};
 use php_reader::look::{
     closed_by, due_at, ended_by, is_reference, is_spread, next_at, sees_paren, spot,
 };
 use php_reader::role::Due;
+use php_reader::{Listed, Stop};
 use sqlite_items::Items;
 use std::alloc::Global;
 

@@ -5,7 +5,6 @@ ghost use Rattle.php_build.specs.Flat.{is_flat, is_flat_leaf, is_flat_suffix};
 
 use php_ast::{Expr, Suffix};
 use php_reader::role::Next;
-use sqlite_items::Items;
 
 /// An expression, what an operator behind it must draw less than, the place behind it, and what the token there does.
 #[derive(Drop)]
@@ -48,24 +47,10 @@ pub(crate) struct Followed {
     ghost flat: { is_flat_suffix suffix ≡ true },
 }
 
-/// What was listed, and the place behind its closing token.
-#[derive(Drop)]
-pub(crate) struct Listed<T> {
-    pub(crate) items: Items<T>,
-    pub(crate) next: usize,
-}
-
 /// One part of a list or of a `new`, the place behind it, and what the token there does.
 #[derive(Drop)]
 pub(crate) struct Element<T> {
     pub(crate) item: T,
     pub(crate) next: usize,
     pub(crate) behind: Next,
-}
-
-/// One thing, and the place behind it.
-#[derive(Drop)]
-pub(crate) struct Entry<T> {
-    pub(crate) item: T,
-    pub(crate) next: usize,
 }

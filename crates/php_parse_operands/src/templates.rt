@@ -9,15 +9,15 @@ ghost use Rattle.php_reader.specs.Seen.{Shows, is_opened, mold};
 
 use crate::inner::ReadsInner;
 use crate::parser::Parser;
-use crate::read::{Entry, Listed, Read, Taken};
+use crate::read::{Read, Taken};
 use php_ast::{Expr, Piece};
 use php_build::build::template_expr;
 use php_grammar::Closer;
 use php_lex::Tokens;
-use php_reader::Stop;
 use php_reader::limit::{LEAST_POWER, TOP};
 use php_reader::look::{closed_by, mold_at, next_at, spot, text_at};
 use php_reader::role::Mold;
+use php_reader::{Entry, Listed, Stop};
 use sqlite_items::Items;
 use std::alloc::Global;
 

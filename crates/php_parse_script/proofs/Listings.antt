@@ -6,14 +6,15 @@ use Rattle.php_grammar.specs.declaration.ScriptMachine.{due_interface, heading_r
 use Rattle.php_reader.specs.declared.reader.Reader.{Reader}
 use Rattle.php_reader.specs.declared.fail.Stop.{Stop}
 use Rattle.php_reader.specs.Seen.{Shows, rest}
-use Rattle.php_parse_script.specs.declared.read.ReadNames.{ReadNames}
+use Rattle.php_ast.specs.declared.spot.Name as rust_name
+use Rattle.php_reader.specs.declared.found.Listed.{Listed}
 use Rattle.php_parse_script.specs.Look.{head_mark}
 use Rattle.php_parse_script.specs.Owner.{Owner, owned, owner_mark, GoesNoFurther}
 use Rattle.php_parse_script.specs.Answer.{AnswersNames, AnswersListing}
 use Rattle.php_parse_script.proofs.Moves.{leads, stays_at, later}
 use Rattle.php_parse_script.proofs.Named.{owner_read, past_names, past_none}
 
-pub listing_behind : (o : Owner) (reader : Reader) (at : ℕ) (r : Result ReadNames Stop) → Shows heading_role reader.tokens.now at (owner_mark o) → AnswersNames reader (at + 1) r → AnswersListing o reader at r
+pub listing_behind : (o : Owner) (reader : Reader) (at : ℕ) (r : Result (Listed rust_name.Name) Stop) → Shows heading_role reader.tokens.now at (owner_mark o) → AnswersNames reader (at + 1) r → AnswersListing o reader at r
 listing_behind o reader at (Ok r) g f = record {
   names = then_also f.before f.last;
   shown = f.shown;
@@ -24,7 +25,7 @@ listing_behind o reader at (Ok r) g f = record {
 }
 listing_behind o reader at (Err e) g f = λ items. later reader.tokens.now at (at + 1) (due_interface items (owned o empty)) e (omega arith) (owner_read items o g.token g.stands.is g.role_is) (f items o)
 
-pub listing_none : (o : Owner) (reader : Reader) (at : ℕ) (r : ReadNames) → r.names ≡ [] → r.next ≡ at → head_mark (rest reader.tokens.now at) ≢ owner_mark o → at ≤ length reader.tokens.now → AnswersListing o reader at (Ok r)
+pub listing_none : (o : Owner) (reader : Reader) (at : ℕ) (r : Listed rust_name.Name) → r.items ≡ [] → r.next ≡ at → head_mark (rest reader.tokens.now at) ≢ owner_mark o → at ≤ length reader.tokens.now → AnswersListing o reader at (Ok r)
 listing_none o reader at r none here absent within = record {
   names = empty;
   shown = ap names_view none;

@@ -28,7 +28,7 @@ use Rattle.php_reader.specs.declared.fail.Stop.TheVariants.{Syntax, TooDeep, NoM
 use Rattle.php_reader.specs.Seen.{rest}
 use Rattle.php_parse_script.specs.declared.read.ReadWords.{ReadWords}
 use Rattle.php_parse_script.specs.declared.read.ReadParent.{ReadParent}
-use Rattle.php_parse_script.specs.declared.read.ReadNames.{ReadNames}
+use Rattle.php_reader.specs.declared.found.Listed.{Listed}
 use Rattle.php_parse_script.specs.declared.read.ClassHeading as rust_heading
 use Rattle.php_parse_script.specs.declared.read.InterfaceHeading.{InterfaceHeading}
 use Rattle.php_parse_script.specs.declared.read.ReadItem.{ReadItem}
@@ -78,17 +78,17 @@ AnswersParent reader at (Err e) = (items : Items) (words : ClassWords) (n : Name
     → Fails reader.room (past_heading items (class_heading words n None empty)) (rest reader.tokens.now at) reader.tokens.now at e
 
 -- one name or more; the last one isn't followed by a comma
-pub record FoundNames (room : ℕ) (tokens : List Token) (at : ℕ) (r : ReadNames) : Type 0 where
+pub record FoundNames (room : ℕ) (tokens : List Token) (at : ℕ) (r : Listed rust_name.Name) : Type 0 where
   pub before : Names
   pub last : Name Nothing
-  pub shown : names_view r.names ≡ noted_separated size_name (noted_name (notes_of tokens)) at (then_also before last)
+  pub shown : names_view r.items ≡ noted_separated size_name (noted_name (notes_of tokens)) at (then_also before last)
   pub sized : at + size_separated size_name (then_also before last) ≡ r.next
   pub reads : (items : Items) (o : Owner)
       → Leads room (due_interface items (owned o empty)) (rest tokens at) (past_heading items (owned o (then_also before last))) (rest tokens r.next)
   pub no_comma : head_mark (rest tokens r.next) ≢ by_comma
   pub within : r.next ≤ length tokens
 
-abbrev pub AnswersNames : Reader → ℕ → Result ReadNames Stop → Type 0
+abbrev pub AnswersNames : Reader → ℕ → Result (Listed rust_name.Name) Stop → Type 0
 AnswersNames reader at (Ok r) = FoundNames reader.room reader.tokens.now at r
 AnswersNames reader at (Err e) = (items : Items) (o : Owner) → Fails reader.room (due_interface items (owned o empty)) (rest reader.tokens.now at) reader.tokens.now at e
 
@@ -101,15 +101,15 @@ pub record NamesSoFar (room : ℕ) (tokens : List Token) (at : ℕ) (xs : List r
   pub within : next ≤ length tokens
 
 -- names behind their word, or none
-pub record FoundListing (o : Owner) (room : ℕ) (tokens : List Token) (at : ℕ) (r : ReadNames) : Type 0 where
+pub record FoundListing (o : Owner) (room : ℕ) (tokens : List Token) (at : ℕ) (r : Listed rust_name.Name) : Type 0 where
   pub names : Names
-  pub shown : names_view r.names ≡ noted_names (notes_of tokens) at names
+  pub shown : names_view r.items ≡ noted_names (notes_of tokens) at names
   pub sized : at + size_names names ≡ r.next
   pub reads : (items : Items) → Leads room (past_heading items (owned o empty)) (rest tokens at) (past_heading items (owned o names)) (rest tokens r.next)
   pub over : IsPast o (rest tokens at) → GoesNoFurther (owned o names) (rest tokens r.next)
   pub within : r.next ≤ length tokens
 
-abbrev pub AnswersListing : Owner → Reader → ℕ → Result ReadNames Stop → Type 0
+abbrev pub AnswersListing : Owner → Reader → ℕ → Result (Listed rust_name.Name) Stop → Type 0
 AnswersListing o reader at (Ok r) = FoundListing o reader.room reader.tokens.now at r
 AnswersListing o reader at (Err e) = (items : Items) → Fails reader.room (past_heading items (owned o empty)) (rest reader.tokens.now at) reader.tokens.now at e
 

@@ -47,7 +47,7 @@ pub(crate) fn class_heading(reader: &Reader, at: usize) -> Result<ClassHeading, 
         modifiers: read.words,
         name,
         parent: parent.parent,
-        interfaces: interfaces.names,
+        interfaces: interfaces.items,
         next: interfaces.next,
     })
 }
@@ -63,7 +63,7 @@ pub(crate) fn interface_heading(reader: &Reader, at: usize) -> Result<InterfaceH
     Ok(InterfaceHeading {
         spot: spot(reader.tokens, at),
         name,
-        parents: parents.names,
+        parents: parents.items,
         next: parents.next,
     })
 }

@@ -8,10 +8,10 @@ ghost use Rattle.php_parse_script.specs.Owner.{of_class, of_interface};
 ghost use Rattle.php_parse_script.specs.Answer.{AnswersListing, AnswersName, AnswersNames, AnswersParent};
 
 use crate::look::{sees_comma, sees_extends, sees_implements};
-use crate::read::{ReadNames, ReadParent};
+use crate::read::ReadParent;
 use php_ast::Name;
 use php_parse_simple::look::bare_name_at;
-use php_reader::{Reader, Stop};
+use php_reader::{Listed, Reader, Stop};
 use sqlite_items::Items;
 
 /// The name at a place.
@@ -45,7 +45,7 @@ pub(crate) fn parent(reader: &Reader, at: usize) -> Result<ReadParent, Stop>
 }
 
 /// One name or more, between commas.
-fn names(reader: &Reader, at: usize) -> Result<ReadNames, Stop>
+fn names(reader: &Reader, at: usize) -> Result<Listed<Name>, Stop>
     requires { at ≤ length reader.now.tokens.now }
     ensures { AnswersNames reader.entry.now at result }
 {
@@ -56,8 +56,8 @@ fn names(reader: &Reader, at: usize) -> Result<ReadNames, Stop>
         names.push(name)?;
         let behind = next + 1;
         if !sees_comma(reader.tokens, behind) {
-            return Ok(ReadNames {
-                names,
+            return Ok(Listed {
+                items: names,
                 next: behind,
             });
         }
@@ -66,13 +66,13 @@ fn names(reader: &Reader, at: usize) -> Result<ReadNames, Stop>
 }
 
 /// The interfaces of a class with their `implements`, or none.
-pub(crate) fn interfaces(reader: &Reader, at: usize) -> Result<ReadNames, Stop>
+pub(crate) fn interfaces(reader: &Reader, at: usize) -> Result<Listed<Name>, Stop>
     requires { at ≤ length reader.now.tokens.now }
     ensures { (words : ClassWords) (n : tree.Name Nothing) (parent : Option (tree.Name Nothing)) → AnswersListing (of_class words n parent) reader.entry.now at result }
 {
     if !sees_implements(reader.tokens, at) {
-        return Ok(ReadNames {
-            names: Items::new(reader.alloc),
+        return Ok(Listed {
+            items: Items::new(reader.alloc),
             next: at,
         });
     }
@@ -80,13 +80,13 @@ pub(crate) fn interfaces(reader: &Reader, at: usize) -> Result<ReadNames, Stop>
 }
 
 /// The parents of an interface with their `extends`, or none.
-pub(crate) fn parents(reader: &Reader, at: usize) -> Result<ReadNames, Stop>
+pub(crate) fn parents(reader: &Reader, at: usize) -> Result<Listed<Name>, Stop>
     requires { at ≤ length reader.now.tokens.now }
     ensures { (n : tree.Name Nothing) → AnswersListing (of_interface n) reader.entry.now at result }
 {
     if !sees_extends(reader.tokens, at) {
-        return Ok(ReadNames {
-            names: Items::new(reader.alloc),
+        return Ok(Listed {
+            items: Items::new(reader.alloc),
             next: at,
         });
     }

@@ -20,13 +20,6 @@ pub(crate) struct ReadParent {
     pub(crate) next: usize,
 }
 
-/// Names, and the place behind them.
-#[derive(Drop)]
-pub(crate) struct ReadNames {
-    pub(crate) names: Items<Name>,
-    pub(crate) next: usize,
-}
-
 /// What stands before the members of a class, and the place behind it.
 #[derive(Drop)]
 pub(crate) struct ClassHeading {

@@ -19,7 +19,7 @@ use Rattle.php_reader.specs.declared.fail.Stop.{Stop}
 use Rattle.php_reader.specs.declared.fail.Stop.TheVariants.{Syntax, TooDeep, NoMemory}
 use Rattle.php_reader.specs.Seen.{rest}
 use Rattle.php_parse_signature.specs.declared.read.Front.{Front}
-use Rattle.php_parse_signature.specs.declared.read.Marked.{Marked}
+use Rattle.php_reader.specs.declared.found.Marked.{Marked}
 use Rattle.php_parse_signature.specs.declared.read.Typed.{Typed}
 use Rattle.php_parse_signature.specs.Answer.{NoType, NoBase, NoVariable, MayBegin, FoundDeclared, SeesMark, LacksName, FailsType, FailsParam, front_of, FoundFront}
 use Rattle.php_grammar_laws.specs.Walks.{short, outcome, walk_signature}

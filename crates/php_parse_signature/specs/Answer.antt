@@ -32,8 +32,8 @@ use Rattle.php_reader.specs.declared.fail.Stop.TheVariants.{Syntax, TooDeep, NoM
 use Rattle.php_reader.specs.Seen.{Shows, rest, test}
 use Rattle.php_parse_operands.specs.declared.read.Read.{Read}
 use Rattle.php_parse_operands.specs.Walk.{Rests}
-use Rattle.php_parse_signature.specs.declared.read.Entry.{Entry}
-use Rattle.php_parse_signature.specs.declared.read.Marked.{Marked}
+use Rattle.php_reader.specs.declared.found.Entry.{Entry}
+use Rattle.php_reader.specs.declared.found.Marked.{Marked}
 use Rattle.php_parse_signature.specs.declared.read.Typed.{Typed}
 use Rattle.php_parse_signature.specs.declared.read.Front.{Front}
 use Rattle.php_parse_signature.specs.declared.read.Valued.{Valued}

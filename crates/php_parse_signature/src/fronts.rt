@@ -8,12 +8,12 @@ ghost use Rattle.php_parse_signature.specs.Answer.{AnswersDeclared, AnswersFront
 
 use crate::look::{part_at, sees_reference, sees_variadic};
 use crate::part::Part;
-use crate::read::{Entry, Front, Marked, Typed};
+use crate::read::{Front, Typed};
 use crate::types::{type_at, type_kind_at};
 use php_ast::Name;
 use php_lex::Tokens;
 use php_reader::look::name_at;
-use php_reader::{Reader, Stop};
+use php_reader::{Entry, Marked, Reader, Stop};
 
 /// The type of a parameter, or none.
 fn declared(reader: &Reader, at: usize) -> Result<Typed, Stop>

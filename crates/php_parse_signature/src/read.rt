@@ -7,20 +7,6 @@ ghost use Rattle.php_flat.specs.Statements.{is_flat_optional};
 use php_ast::{Expr, Name, Param, Signature, Type};
 use sqlite_items::Items;
 
-/// One thing, and the place behind it.
-#[derive(Drop)]
-pub(crate) struct Entry<T> {
-    pub(crate) item: T,
-    pub(crate) next: usize,
-}
-
-/// Whether a mark stands before a parameter, and the place behind it.
-#[derive(Clone, Copy)]
-pub(crate) struct Marked {
-    pub(crate) stands: bool,
-    pub(crate) next: usize,
-}
-
 /// A type or none, and the place behind it.
 #[derive(Drop)]
 pub(crate) struct Typed {

@@ -6,12 +6,12 @@ ghost use Rattle.php_parse_signature.specs.Answer.{AnswersNone, AnswersResult, A
 use crate::look::part_at;
 use crate::params::params;
 use crate::part::Part;
-use crate::read::{Entry, ReadSignature, Typed};
+use crate::read::{ReadSignature, Typed};
 use crate::types::{type_at, type_kind_at};
 use php_ast::Signature;
 use php_lex::Tokens;
 use php_reader::look::{sees_colon, sees_paren, sees_right_paren};
-use php_reader::{Reader, Stop};
+use php_reader::{Entry, Reader, Stop};
 
 /// Where no level of nesting is left inside the parentheses, the first token there is nested too deep.
 fn sunk(tokens: &Tokens, at: usize) -> Stop

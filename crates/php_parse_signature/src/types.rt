@@ -12,12 +12,11 @@ ghost use Rattle.php_parse_signature.specs.PartView.{base_of};
 
 use crate::look::part_at;
 use crate::part::{BaseKind, Part};
-use crate::read::Entry;
 use php_ast::{BaseType, Type};
 use php_base::NoMemory;
 use php_lex::Tokens;
 use php_reader::look::name_at;
-use php_reader::{Reader, Stop};
+use php_reader::{Entry, Reader, Stop};
 
 /// What a type begins with.
 #[derive(Clone, Copy)]

@@ -25,7 +25,7 @@ use Rattle.php_parse_operands.specs.declared.read.Read.{Read}
 use Rattle.php_parse_operands.specs.Walk as inner
 use Rattle.php_parse_operands.specs.Answer.{Spans}
 use Rattle.php_parse_simple.specs.declared.read.ReadStatement.{ReadStatement}
-use Rattle.php_parse_simple.specs.declared.read.Listed.{Listed}
+use Rattle.php_reader.specs.declared.found.Listed.{Listed}
 use Rattle.php_grammar_laws.specs.Walks.{walk_statement}
 use Rattle.php_parse_simple.specs.Walk.{Leads, Halts, walk_behind, expression_outcome, depth_before, head_ending}
 

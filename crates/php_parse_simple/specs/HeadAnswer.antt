@@ -7,7 +7,7 @@ use Rattle.php_ast.specs.declared.statement.ForHead.{ForHead}
 use Rattle.php_ast.specs.declared.statement.ForeachHead.{ForeachHead}
 use Rattle.php_ast.specs.expression.Tree as tree
 use Rattle.php_grammar.specs.declared.closer.Closer.{Closer}
-use Rattle.php_parse_simple.specs.declared.read.Listed.{Listed}
+use Rattle.php_reader.specs.declared.found.Listed.{Listed}
 use Rattle.php_ast.specs.Symbol.{Symbol}
 use Rattle.php_ast.specs.expression.View.{view, values_from}
 use Rattle.php_ast.specs.expression.Placed.{size, size_items, noted, noted_items, notes_of}
@@ -25,7 +25,7 @@ use Rattle.php_flat.specs.Statements.{is_flat_target, is_flat_for, is_flat_forea
 use Rattle.php_reader.specs.declared.reader.Reader.{Reader}
 use Rattle.php_reader.specs.declared.fail.Stop.{Stop}
 use Rattle.php_reader.specs.Seen.{rest}
-use Rattle.php_parse_simple.specs.declared.read.Entry.{Entry}
+use Rattle.php_reader.specs.declared.found.Entry.{Entry}
 use Rattle.php_parse_simple.specs.declared.read.Turn.{Turn}
 use Rattle.php_grammar_laws.specs.Walks.{short, outcome, walk_statement}
 use Rattle.php_parse_simple.specs.Walk.{walk_behind, Leads}

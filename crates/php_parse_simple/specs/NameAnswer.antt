@@ -19,7 +19,7 @@ use Rattle.php_flat.specs.Statements.{is_flat_variable, is_flat_constant}
 use Rattle.php_reader.specs.declared.reader.Reader.{Reader}
 use Rattle.php_reader.specs.declared.fail.Stop.{Stop}
 use Rattle.php_reader.specs.Seen.{rest}
-use Rattle.php_parse_simple.specs.declared.read.Entry.{Entry}
+use Rattle.php_reader.specs.declared.found.Entry.{Entry}
 use Rattle.php_grammar_laws.specs.Walks.{short, stepped, walk_statement}
 use Rattle.php_parse_simple.specs.Walk.{StatementOutcome, walk_behind, Leads}
 use Rattle.php_parse_simple.specs.Answer.{Fails}

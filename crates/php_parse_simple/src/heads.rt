@@ -6,13 +6,13 @@ ghost use Rattle.php_parse_simple.specs.HeadAnswer.{AnswersForHead, AnswersForea
 
 use crate::expression::expression;
 use crate::look::{ends, sees, sees_as};
-use crate::read::{Entry, Listed, Turn, discard, let_go, unclosed, unended};
+use crate::read::{Turn, discard, let_go, unclosed, unended};
 use crate::role::Fixed;
 use crate::values::values;
 use php_ast::{Expr, ForHead, ForeachHead, Target};
 use php_grammar::Closer;
 use php_reader::look::sees_ampersand;
-use php_reader::{Reader, Stop};
+use php_reader::{Entry, Listed, Reader, Stop};
 use sqlite_items::Items;
 
 /// A test in parentheses.

@@ -10,13 +10,13 @@ ghost use Rattle.php_parse_simple.specs.NameAnswer.{AnswersConstant, AnswersVari
 use crate::build::{constants_statement, declare_statement, globals_statement, statics_statement};
 use crate::expression::expression;
 use crate::look::{bare_name_at, ends, int_at, sees, sees_variable, variable_at};
-use crate::read::{Entry, ReadStatement};
+use crate::read::ReadStatement;
 use crate::role::Fixed;
 use crate::simple::line;
 use php_ast::{ConstantItem, VariableItem};
 use php_grammar::Closer;
 use php_reader::look::spot;
-use php_reader::{Reader, Stop};
+use php_reader::{Entry, Reader, Stop};
 use sqlite_items::Items;
 
 /// `global ..;`

@@ -6,7 +6,7 @@ ghost use Rattle.php_reader.specs.declared.fail.Stop.TheVariants.{Syntax};
 
 use php_ast::{CaseEnd, Expr, Name, Stmt, Target};
 use php_parse_expression::Read;
-use php_reader::Stop;
+use php_reader::{Entry, Stop};
 use sqlite_items::Items;
 
 /// A statement, and the place behind it. It is flat.
@@ -15,20 +15,6 @@ pub struct ReadStatement {
     pub statement: Stmt,
     pub next: usize,
     pub ghost flat: { is_flat_statement statement ≡ true },
-}
-
-/// What was listed, and the place behind it.
-#[derive(Drop)]
-pub struct Listed<T> {
-    pub items: Items<T>,
-    pub next: usize,
-}
-
-/// One thing, and the place behind it.
-#[derive(Drop)]
-pub struct Entry<T> {
-    pub item: T,
-    pub next: usize,
 }
 
 /// What takes the key, if anything, and the value at each turn of a `foreach`; and the place behind them.

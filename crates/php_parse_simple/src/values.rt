@@ -5,10 +5,9 @@ ghost use Rattle.php_parse_simple.specs.Answer.{AnswersValues};
 
 use crate::expression::expression;
 use crate::look::ends;
-use crate::read::Listed;
 use php_ast::Expr;
 use php_grammar::Closer;
-use php_reader::{Reader, Stop};
+use php_reader::{Listed, Reader, Stop};
 use sqlite_items::Items;
 
 /// One value or more, with a comma between each two, up to what is no comma.

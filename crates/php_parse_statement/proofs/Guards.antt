@@ -25,7 +25,7 @@ use Rattle.php_parse_simple.proofs.Moves.{alike, move, sticks, leads, due_outsid
 use Rattle.php_parse_simple.proofs.Fails.{later}
 use Rattle.php_reader.specs.Seen.{Shows, rest}
 use Rattle.php_reader.specs.declared.reader.Reader.{Reader}
-use Rattle.php_parse_simple.specs.declared.read.Listed.{Listed}
+use Rattle.php_reader.specs.declared.found.Listed.{Listed}
 use Rattle.php_reader.specs.declared.fail.Stop.{Stop}
 use Rattle.php_reader.specs.declared.fail.Stop.TheVariants.{Syntax, TooDeep, NoMemory}
 use Rattle.php_parse_statement.specs.ListAnswer.{list_measure, IsBraced, AnswersBraced}

@@ -19,8 +19,8 @@ use Rattle.php_flat.specs.Statements.{is_flat_optional, are_flat_statements, is_
 use Rattle.php_reader.specs.declared.reader.Reader.{Reader}
 use Rattle.php_reader.specs.declared.fail.Stop.{Stop}
 use Rattle.php_reader.specs.Seen.{Shows, rest}
-use Rattle.php_parse_simple.specs.declared.read.Entry.{Entry}
-use Rattle.php_parse_simple.specs.declared.read.Listed.{Listed}
+use Rattle.php_reader.specs.declared.found.Entry.{Entry}
+use Rattle.php_reader.specs.declared.found.Listed.{Listed}
 use Rattle.php_parse_simple.specs.Parts.{case_parts}
 use Rattle.php_parse_simple.specs.LabelAnswer.{label_behind}
 use Rattle.php_parse_simple.specs.Walk.{Leads}

@@ -19,8 +19,8 @@ use Rattle.php_flat.specs.Statements.{is_flat_statement, are_flat_statements, is
 use Rattle.php_reader.specs.declared.reader.Reader.{Reader}
 use Rattle.php_reader.specs.declared.fail.Stop.{Stop}
 use Rattle.php_reader.specs.Seen.{rest}
-use Rattle.php_parse_simple.specs.declared.read.Entry.{Entry}
-use Rattle.php_parse_simple.specs.declared.read.Listed.{Listed}
+use Rattle.php_reader.specs.declared.found.Entry.{Entry}
+use Rattle.php_reader.specs.declared.found.Listed.{Listed}
 use Rattle.php_parse_statement.specs.declared.read.Branches.{Branches}
 use Rattle.php_parse_simple.specs.declared.role.After.{After}
 use Rattle.php_parse_simple.specs.RoleView.{after_view, ends_list}

@@ -17,7 +17,7 @@ use Rattle.php_reader.specs.declared.reader.Reader.{Reader}
 use Rattle.php_reader.specs.declared.fail.Stop.{Stop}
 use Rattle.php_reader.specs.Seen.{rest}
 use Rattle.php_parse_simple.specs.declared.read.ReadStatement.{ReadStatement}
-use Rattle.php_parse_simple.specs.declared.read.Listed.{Listed}
+use Rattle.php_reader.specs.declared.found.Listed.{Listed}
 use Rattle.php_parse_simple.specs.RoleView.{ends_list}
 use Rattle.php_parse_simple.specs.Walk.{Leads}
 use Rattle.php_parse_simple.specs.Answer.{Fails, SpansStatement}

@@ -18,8 +18,8 @@ use Rattle.php_flat.specs.Statements.{are_flat_statements, is_flat_catch, is_fla
 use Rattle.php_reader.specs.declared.reader.Reader.{Reader}
 use Rattle.php_reader.specs.declared.fail.Stop.{Stop}
 use Rattle.php_reader.specs.Seen.{rest}
-use Rattle.php_parse_simple.specs.declared.read.Entry.{Entry}
-use Rattle.php_parse_simple.specs.declared.read.Listed.{Listed}
+use Rattle.php_reader.specs.declared.found.Entry.{Entry}
+use Rattle.php_reader.specs.declared.found.Listed.{Listed}
 use Rattle.php_parse_simple.specs.Parts.{catch_parts}
 use Rattle.php_parse_simple.specs.Walk.{Leads}
 use Rattle.php_parse_simple.specs.Answer.{Fails}

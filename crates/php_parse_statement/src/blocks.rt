@@ -13,10 +13,10 @@ use crate::read::forget;
 use php_ast::Stmt;
 use php_parse_simple::build::block_statement;
 use php_parse_simple::look::{begun_at, list_ends, sees_after};
-use php_parse_simple::read::{Listed, ReadStatement};
+use php_parse_simple::read::ReadStatement;
 use php_parse_simple::role::{After, Begun};
-use php_reader::Stop;
 use php_reader::look::spot;
+use php_reader::{Listed, Stop};
 use sqlite_items::Items;
 
 impl<'t, R: ReadsInner> Parser<'t, R> {

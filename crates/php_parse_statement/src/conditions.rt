@@ -17,10 +17,10 @@ use php_ast::{ElseIf, Stmt};
 use php_parse_simple::build::{if_lists_statement, if_statement};
 use php_parse_simple::heads::test;
 use php_parse_simple::look::{sees, sees_after};
-use php_parse_simple::read::{Listed, ReadStatement};
+use php_parse_simple::read::ReadStatement;
 use php_parse_simple::role::{After, Fixed};
-use php_reader::Stop;
 use php_reader::look::spot;
+use php_reader::{Listed, Stop};
 use sqlite_items::{Boxed, Items};
 
 impl<'t, R: ReadsInner> Parser<'t, R> {

@@ -16,10 +16,10 @@ use php_parse_simple::build::{
 };
 use php_parse_simple::heads::{for_head, foreach_head, test};
 use php_parse_simple::look::{sees, sees_after};
-use php_parse_simple::read::{Entry, ReadStatement};
+use php_parse_simple::read::ReadStatement;
 use php_parse_simple::role::{After, Fixed};
-use php_reader::Stop;
 use php_reader::look::spot;
+use php_reader::{Entry, Stop};
 use sqlite_items::Boxed;
 
 impl<'t, R: ReadsInner> Parser<'t, R> {

@@ -4,8 +4,7 @@ ghost use Rattle.std.specs.Prelude.{◌≡◌, true};
 ghost use Rattle.php_flat.specs.Statements.{are_flat_statements};
 
 use php_ast::{Case, Catch, ElseIf, Stmt};
-use php_parse_simple::read::Listed;
-use php_reader::Stop;
+use php_reader::{Listed, Stop};
 use sqlite_items::Items;
 
 /// The bodies of an `if`: the first one, those of its `elseif` parts, that of its `else`; and the place behind them.

@@ -17,10 +17,10 @@ use php_parse_simple::build::switch_statement;
 use php_parse_simple::heads::test;
 use php_parse_simple::labels::{cases_form, label};
 use php_parse_simple::look::{after_at, sees, sees_after};
-use php_parse_simple::read::{Entry, Listed, ReadStatement};
+use php_parse_simple::read::ReadStatement;
 use php_parse_simple::role::{After, Fixed};
-use php_reader::Stop;
 use php_reader::look::spot;
+use php_reader::{Entry, Listed, Stop};
 use sqlite_items::Items;
 
 /// Whether the label that begins at a place, if one does, is a `default`.

@@ -13,10 +13,10 @@ use php_ast::{Catch, Stmt};
 use php_parse_simple::build::try_statement;
 use php_parse_simple::catches::caught;
 use php_parse_simple::look::{sees, sees_after};
-use php_parse_simple::read::{Entry, Listed, ReadStatement};
+use php_parse_simple::read::ReadStatement;
 use php_parse_simple::role::{After, Fixed};
-use php_reader::Stop;
 use php_reader::look::spot;
+use php_reader::{Entry, Listed, Stop};
 use sqlite_items::Items;
 
 impl<'t, R: ReadsInner> Parser<'t, R> {

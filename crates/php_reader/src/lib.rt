@@ -2,6 +2,7 @@
 #![tactic(auto)]
 
 pub mod fail;
+pub mod found;
 pub mod limit;
 pub mod line;
 pub mod look;
@@ -9,5 +10,6 @@ pub mod reader;
 pub mod role;
 
 pub use fail::{ParseFail, Stop};
+pub use found::{Entry, Listed, Marked};
 pub use line::with_line;
 pub use reader::Reader;

@@ -55,7 +55,7 @@ returns c =
     let two = ap size_origin g.1 in
     record {
       form = prefers tt g.0 h.word t.names;
-      shown = preference_shown c.args.reader.now.tokens.now c.args.at _ _ _ c.in_ok-others.others.names _ g.0 h.word t.names c.spot.ensures g.2 (word_moved c.args.reader.now.tokens.now _ _ _ h.word h.word_shown (omega (arith, two))) t.shown (omega (arith, h.sized, two));
+      shown = preference_shown c.args.reader.now.tokens.now c.args.at _ _ _ c.in_ok-others.others.items _ g.0 h.word t.names c.spot.ensures g.2 (word_moved c.args.reader.now.tokens.now _ _ _ h.word h.word_shown (omega (arith, two))) t.shown (omega (arith, h.sized, two));
       sized = omega (arith, h.sized, two, t.sized);
       reads = λ rules. leads (past_trait (of_instead rules g.0 h.word) t.names)
           (leads (due_trait (of_instead rules g.0 h.word) empty) (head_reads c.args.reader.now.tokens.now c.args.head.next c.args.reader.now.room rules h.origin g.0 h.word g.1 (h.reads rules) o c.requires.deep)
