@@ -13,6 +13,11 @@ use Rattle.php_grammar.proofs.expression.Roles.{colon_says}
 use Rattle.php_reader.proofs.Items.{shows_one, tests_none}
 use Rattle.php_parse_expression.proofs.operators.choice.Goals as goal
 
+pub overflow_add-result : goal.overflow_add-result
+overflow_add-result g c =
+    let u = c.if-ended_by.ensures.yes refl _ _ c.due_at-due.ensures.marks in
+    omega (arith, u.stands.fits)
+
 pub returns-in-Err : goal.returns-in-Err
 returns-in-Err g c = λ f start spans is.
     let o = c.requires.here in
