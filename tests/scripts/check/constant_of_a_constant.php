@@ -1,0 +1,3 @@
+<?php
+const A =
+B;

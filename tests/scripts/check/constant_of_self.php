@@ -1,0 +1,3 @@
+<?php
+class C { const A =
+self::B; }

@@ -1,0 +1,4 @@
+<?php
+class C {
+const A = 1;
+const a = 2; }

@@ -1,0 +1,3 @@
+text
+<?php
+declare(strict_types=1);

@@ -1,0 +1,4 @@
+<?php
+switch (1) {
+default:
+case 1: }

@@ -1,0 +1,4 @@
+<?php
+interface A { }
+class
+a { }

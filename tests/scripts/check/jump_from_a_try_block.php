@@ -1,0 +1,3 @@
+<?php
+while (1) { try {
+break; } finally { } }

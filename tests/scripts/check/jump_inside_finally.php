@@ -1,0 +1,3 @@
+<?php
+try { } finally { while (1) {
+break; } }

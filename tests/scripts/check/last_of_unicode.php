@@ -1,0 +1,3 @@
+<?php
+echo "a
+\u{10FFFF}";

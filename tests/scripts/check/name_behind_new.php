@@ -1,0 +1,3 @@
+<?php
+$a = new
+Statics;

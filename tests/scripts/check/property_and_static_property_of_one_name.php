@@ -1,0 +1,4 @@
+<?php
+class C {
+public $a;
+static $a; }

@@ -1,0 +1,3 @@
+<?php
+echo isset(
+f()->a);

@@ -1,0 +1,3 @@
+<?php
+function f(): void {
+return; }

@@ -1,0 +1,4 @@
+<?php
+trait T { function f() { } }
+class C { use T {
+f as g; } }

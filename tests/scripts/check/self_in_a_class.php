@@ -1,0 +1,3 @@
+<?php
+class C { function f() { return
+self::A; } }

@@ -1,0 +1,3 @@
+<?php
+static $a =
+1 + f();

@@ -1,0 +1,3 @@
+<?php
+try { }
+finally { }

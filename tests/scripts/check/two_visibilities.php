@@ -1,0 +1,3 @@
+<?php
+class C { public
+var $a; }
