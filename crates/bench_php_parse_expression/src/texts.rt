@@ -1,122 +1,31 @@
-// The scripts that are read, each of one expression.
+// The forms of the scripts that are read, each of one expression.
 
-use std::alloc::Global;
-use std::io;
-
-/// The longest script that a lexer takes.
-pub const LONGEST: usize = 1_048_576;
-
-/// How expressions of one form are written: `begin`, then links, then `end`. A link is `open` some times over,
-/// `middle`, `close` as often, and `last`.
-#[derive(Clone, Copy)]
-pub struct Form {
-    pub name: &'static str,
-    /// How many items a link counts as.
-    items: usize,
-    begin: &'static [u8],
-    open: &'static [u8],
-    depth: usize,
-    middle: &'static [u8],
-    close: &'static [u8],
-    last: &'static [u8],
-    end: &'static [u8],
-}
-
-/// A form whose links have no depth.
-fn flat(
-    name: &'static str,
-    items: usize,
-    begin: &'static [u8],
-    link: &'static [u8],
-    end: &'static [u8],
-) -> Form {
-    Form {
-        name,
-        items,
-        begin,
-        open: b"",
-        depth: 0,
-        middle: b"",
-        close: b"",
-        last: link,
-        end,
-    }
-}
+use php_bench_texts::{Form, RISING, deep, flat};
 
 /// An array of links that nest so deep.
-fn deep(
+fn array_of(
     name: &'static str,
     depth: usize,
     open: &'static [u8],
     middle: &'static [u8],
     close: &'static [u8],
 ) -> Form {
-    Form {
-        name,
-        items: depth,
-        begin: b"[",
-        open,
-        depth,
-        middle,
-        close,
-        last: b",",
-        end: b"]",
-    }
+    deep(name, depth, open, middle, close, b",").between(b"[", b"]")
 }
 
-/// Operators in the order of their powers, each of which goes on inside the right side of the one before it.
-const RISING: &[u8] = b"1 or 1 xor 1 and 1 ? 1 : 1 || 1 && 1 | 1 ^ 1 & 1 == 1 < 1 << 1 + 1 * (";
-
 /// The forms. Inside the array a link may nest 127 deep.
-pub fn forms() -> [Form; 11] {
+pub(crate) fn forms() -> [Form; 11] {
     [
         flat("run", 1, b"1", b" + 2", b""),
         flat("powers", 4, b"1", b" + 2 * 3 - 4 / 5", b""),
         flat("suffixes", 3, b"$a", b"[1][2]->b", b""),
         flat("array", 1, b"[", b"1,", b"]"),
         flat("keyed", 1, b"[", b"'k'=>$v,", b"]"),
-        deep("nested", 100, b"[", b"1", b"]"),
+        array_of("nested", 100, b"[", b"1", b"]"),
         flat("arguments", 1, b"f(1", b",$v", b")"),
         flat("parts", 1, b"\"", b"a $b ", b"\""),
         flat("choices", 1, b"1", b" ? 2 : 3", b""),
-        deep("to_right", 127, b"1 ** ", b"1", b""),
-        deep("rising", 127, RISING, b"1", b")"),
+        array_of("to_right", 127, b"1 ** ", b"1", b""),
+        array_of("rising", 127, RISING, b"1", b")"),
     ]
-}
-
-/// Adds bytes some times over.
-fn repeat(text: &mut Vec<u8>, bytes: &[u8], times: usize) -> io::Result<()> {
-    for _ in 0..times {
-        text.extend_from_slice(bytes)?;
-    }
-    Ok(())
-}
-
-impl Form {
-    fn link(&self, alloc: Global) -> io::Result<Vec<u8>> {
-        let mut link = Vec::new(alloc);
-        repeat(&mut link, self.open, self.depth)?;
-        link.extend_from_slice(self.middle)?;
-        repeat(&mut link, self.close, self.depth)?;
-        link.extend_from_slice(self.last)?;
-        Ok(link)
-    }
-
-    /// A script of so many items, or of as many as fit into the longest one.
-    pub fn script(&self, alloc: Global, items: usize) -> io::Result<Vec<u8>> {
-        let link = self.link(alloc)?;
-        let end = self.end.len().saturating_add(1);
-        let mut script = Vec::new(alloc);
-        script.extend_from_slice(b"<?php ")?;
-        script.extend_from_slice(self.begin)?;
-        for _ in 0..items.checked_div(self.items).unwrap_or(0) {
-            if LONGEST.saturating_sub(script.len()) < link.len().saturating_add(end) {
-                break;
-            }
-            script.extend_from_slice(&link)?;
-        }
-        script.extend_from_slice(self.end)?;
-        script.extend_from_slice(b";")?;
-        Ok(script)
-    }
 }

@@ -6,13 +6,18 @@
 // Behind all lines their count is written. What is wanted stands in the input and so comes from outside the program.
 #![tactic(auto)]
 
+mod texts;
+
 use std::alloc::{AllocError, Global};
 use std::io::{self, BufRead, BufReader};
+pub use texts::{Around, script_of};
 
 /// What is tried by cases.
 pub trait Subject {
-    /// Takes a line that isn't a case.
-    fn tell(&mut self, alloc: Global, line: &str) -> Result<(), AllocError>;
+    /// Takes a line that isn't a case. Unless said otherwise such a line is a title, and tells nothing.
+    fn tell(&mut self, _: Global, _: &str) -> Result<(), AllocError> {
+        Ok(())
+    }
 
     /// What is answered of a case.
     fn answer(&mut self, alloc: Global, asked: &str) -> Result<String, AllocError>;

@@ -19,10 +19,6 @@ use std::io;
 struct Compiler;
 
 impl Subject for Compiler {
-    fn tell(&mut self, _: Global, _: &str) -> Result<(), AllocError> {
-        Ok(())
-    }
-
     fn answer(&mut self, alloc: Global, asked: &str) -> Result<String, AllocError> {
         answer_of(alloc, asked)
     }

@@ -68,10 +68,6 @@ fn answer_of(alloc: Global, script: &[u8]) -> Result<String, AllocError> {
 struct Narrowing;
 
 impl Subject for Narrowing {
-    fn tell(&mut self, _: Global, _: &str) -> Result<(), AllocError> {
-        Ok(())
-    }
-
     fn answer(&mut self, alloc: Global, asked: &str) -> Result<String, AllocError> {
         let script = asked.replace(alloc, "\\n", "\n")?;
         answer_of(alloc, script.as_bytes())

@@ -64,10 +64,6 @@ fn answer_of(alloc: Global, asked: &str) -> Result<String, NoMemory> {
 }
 
 impl Subject for Looks {
-    fn tell(&mut self, _: Global, _: &str) -> Result<(), AllocError> {
-        Ok(())
-    }
-
     fn answer(&mut self, alloc: Global, asked: &str) -> Result<String, AllocError> {
         match answer_of(alloc, asked) {
             Ok(answer) => Ok(answer),

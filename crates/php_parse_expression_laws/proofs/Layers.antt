@@ -1,5 +1,5 @@
 -- A function at each expression in one node of the program's trees.
-use Rattle.std.proofs.Common.{◌≡◌, ℕ, List, [], ◌∷◌, map, refl, ◌∙◌, ap}
+use Rattle.std.proofs.Common.{◌≡◌, ℕ, List, map, refl, ◌∙◌, ap}
 use Rattle.php_ast.specs.declared.spot.Spot.{Spot}
 use Rattle.php_ast.specs.declared.spot.Name as rust_name
 use Rattle.php_ast.specs.declared.spot.Word.{Word}
@@ -23,6 +23,7 @@ use Rattle.php_ast.specs.declared.expression.ClassStep.{ClassStep}
 use Rattle.php_ast.specs.declared.expression.ClassStep.TheVariants as class_step
 use Rattle.php_ast.specs.declared.expression.Link.{Link}
 use Rattle.php_ast.specs.declared.expression.Link.TheVariants as link
+use Rattle.php_ast.proofs.Views.{map_same}
 
 -- ---- in a part of a node
 
@@ -100,10 +101,6 @@ in_node f (Expr-F.Yield spot v) = Expr-F.Yield spot (f v)
 in_node f (Expr-F.YieldPair spot k v) = Expr-F.YieldPair spot (f k) (f v)
 
 -- ---- the map that is declared with the type is this one
-
-map_same : {A B : Type 0} (f g : A → B) → ((x : A) → f x ≡ g x) → (xs : List A) → map f xs ≡ map g xs
-map_same f g same [] = refl
-map_same f g same (x ∷ xs) = ap (λ y. y ∷ map f xs) (same x) ∙ ap (λ ys. g x ∷ ys) (map_same f g same xs)
 
 -- A function that does the same at each variant is the same.
 

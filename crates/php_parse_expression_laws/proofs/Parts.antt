@@ -72,7 +72,7 @@ named_back w = named_by w.spot w.text w.keyword w refl
 
 -- ---- lists that grow at their end
 
-list_back : {V E S X T : Type 0} (f : V → E) (g : E → S) (p : S → Bool) (v : E → X) (un : T → List E) (more : T → X → T) (all : T → List X → T)
+pub list_back : {V E S X T : Type 0} (f : V → E) (g : E → S) (p : S → Bool) (v : E → X) (un : T → List E) (more : T → X → T) (all : T → List X → T)
     → ((t : T) → all t [] ≡ t) → ((t : T) (x : X) (xs : List X) → all t (x ∷ xs) ≡ all (more t x) xs)
     → ((t : T) (x : V) → p (g (f x)) ≡ true → un (more t (v (f x))) ≡ un t ++ f x ∷ [])
     → (t : T) (xs : List V) → list_all p (map g (map f xs)) ≡ true → un (all t (map v (map f xs))) ≡ un t ++ map f xs

@@ -16,8 +16,12 @@ use Rattle.php_parse_expression_laws.proofs.Nodes.{kept, node_kept}
 kept_all : (e : Expr) → IsKept e
 kept_all = ind-Expr IsKept (λ x y is. subst (λ z. IsKept (roll-Expr z)) (sym (node_same Known Expr known y) ∙ is) (kept y (node_kept y)))
 
+-- a flat expression is what its tree goes back to
+pub expression_back : (e : Expr) → is_flat e ≡ true → close (unview (view e)) ≡ e
+expression_back e h = (kept_all e h).same
+
 pub one_flat_expression : (e f : Expr) → is_flat e ≡ true → is_flat f ≡ true → view e ≡ view f → e ≡ f
-one_flat_expression e f p q h = sym (kept_all e p).same ∙ ap (λ t. close (unview t)) h ∙ (kept_all f q).same
+one_flat_expression e f p q h = sym (expression_back e p) ∙ ap (λ t. close (unview t)) h ∙ expression_back f q
 
 same_place : (k j : ℕ) → (k < j → ⊥) → (j < k → ⊥) → k ≡ j
 same_place zero zero p q = refl

@@ -5,6 +5,7 @@ ghost use Rattle.std.specs.Prelude.{◌≤◌, length};
 use crate::printer::print_last;
 use crate::shapes::shown_shape;
 use php_ast::Expr;
+use php_cases::script_of;
 use php_lex::lex;
 use php_parse_expression::parse_expr;
 use std::alloc::{AllocError, Global};
@@ -20,12 +21,6 @@ pub(crate) fn answer_of(alloc: Global, text: &str, constructs: u32) -> Result<St
         return format!(in alloc; "too long");
     }
     parsed(alloc, script.as_bytes(), constructs.min(128))
-}
-
-fn script_of(alloc: Global, text: &str) -> Result<String, AllocError> {
-    let text = text.replace(alloc, "\\r", "\r")?;
-    let text = text.replace(alloc, "\\n", "\n")?;
-    format!(in alloc; "<?php {text}")
 }
 
 fn parsed(alloc: Global, script: &[u8], depth: u32) -> Result<String, AllocError>

@@ -14,30 +14,30 @@ mod printer;
 mod shapes;
 
 use answer::answer_of;
-use php_cases::{Subject, run};
+use php_cases::{Around, Subject, run};
 use std::alloc::{AllocError, Global};
 use std::io;
 
 /// The parser of expressions, inside so many constructs.
 #[derive(Drop)]
 struct Expressions {
-    constructs: u32,
+    around: Around,
 }
 
 impl Subject for Expressions {
     fn tell(&mut self, _: Global, line: &str) -> Result<(), AllocError> {
-        if let Some(number) = line.strip_prefix("inside ") {
-            self.constructs = number.parse::<u32>().unwrap_or(0);
-        }
+        self.around.tell(line);
         Ok(())
     }
 
     fn answer(&mut self, alloc: Global, asked: &str) -> Result<String, AllocError> {
-        answer_of(alloc, asked, self.constructs)
+        answer_of(alloc, asked, self.around.constructs)
     }
 }
 
 fn main(rt: HostRuntime) -> io::Result<()> {
-    let mut expressions = Expressions { constructs: 0 };
+    let mut expressions = Expressions {
+        around: Around::NOTHING,
+    };
     run(&rt, &mut expressions)
 }

@@ -2,35 +2,26 @@
 
 ghost use Rattle.std.specs.Prelude.{◌≤◌, length};
 
-use crate::printer::print_last;
+use php_case_trees::{print_script, repeated};
+use php_cases::script_of;
 use php_lex::lex;
 use php_parse_script::parse;
 use std::alloc::{AllocError, Global};
 
 /// The answer of a case: of the script of a text inside so many blocks.
 pub(crate) fn answer_of(alloc: Global, text: &str, blocks: usize) -> Result<String, AllocError> {
-    let script = script_of(alloc, text, blocks)?;
+    let script = script_inside(alloc, text, blocks)?;
     if script.as_bytes().len() > 1_048_576 {
         return format!(in alloc; "too long");
     }
     parsed(alloc, script.as_bytes(), blocks)
 }
 
-/// A mark some times over.
-pub(crate) fn repeated(alloc: Global, mark: char, times: usize) -> Result<String, AllocError> {
-    let mut marks = String::new(alloc);
-    for _ in 0..times {
-        marks.push(mark)?;
-    }
-    Ok(marks)
-}
-
-fn script_of(alloc: Global, text: &str, blocks: usize) -> Result<String, AllocError> {
-    let text = text.replace(alloc, "\\r", "\r")?;
-    let text = text.replace(alloc, "\\n", "\n")?;
+fn script_inside(alloc: Global, text: &str, blocks: usize) -> Result<String, AllocError> {
     let opening = repeated(alloc, '{', blocks)?;
     let closing = repeated(alloc, '}', blocks)?;
-    format!(in alloc; "<?php {opening}{text}{closing}")
+    let inside = format!(in alloc; "{opening}{text}{closing}")?;
+    script_of(alloc, inside.as_str())
 }
 
 fn parsed(alloc: Global, script: &[u8], blocks: usize) -> Result<String, AllocError>
@@ -41,7 +32,7 @@ fn parsed(alloc: Global, script: &[u8], blocks: usize) -> Result<String, AllocEr
         Err(fault) => return format!(in alloc; "{fault:?}"),
     };
     match parse(alloc, &tokens) {
-        Ok(script) => print_last(alloc, script, blocks),
+        Ok(script) => print_script(alloc, script, blocks),
         Err(refusal) => format!(in alloc; "{refusal:?}"),
     }
 }

@@ -2,31 +2,25 @@
 
 ghost use Rattle.std.specs.Prelude.{◌≤◌, length};
 
-use crate::printer::print_last;
-use php_ast::Signature;
+use php_case_trees::signature_before;
+use php_cases::{Around, script_of};
 use php_lex::lex;
 use php_parse_signature::parse_signature;
 use std::alloc::{AllocError, Global};
 
 /// The answer of a case: of the signature in a script from a place on, the end of the script where that is before the place,
 /// inside so many constructs, 128 where there are more.
-pub(crate) fn answer_of(
-    alloc: Global,
-    text: &str,
-    constructs: u32,
-    place: usize,
-) -> Result<String, AllocError> {
+pub(crate) fn answer_of(alloc: Global, text: &str, around: Around) -> Result<String, AllocError> {
     let script = script_of(alloc, text)?;
     if script.as_bytes().len() > 1_048_576 {
         return format!(in alloc; "too long");
     }
-    parsed(alloc, script.as_bytes(), constructs.min(128), place)
-}
-
-fn script_of(alloc: Global, text: &str) -> Result<String, AllocError> {
-    let text = text.replace(alloc, "\\r", "\r")?;
-    let text = text.replace(alloc, "\\n", "\n")?;
-    format!(in alloc; "<?php {text}")
+    parsed(
+        alloc,
+        script.as_bytes(),
+        around.constructs.min(128),
+        around.place,
+    )
 }
 
 fn parsed(alloc: Global, script: &[u8], depth: u32, place: usize) -> Result<String, AllocError>
@@ -41,13 +35,4 @@ fn parsed(alloc: Global, script: &[u8], depth: u32, place: usize) -> Result<Stri
         Ok((signature, next)) => signature_before(alloc, signature, next),
         Err(refusal) => format!(in alloc; "{refusal:?}"),
     }
-}
-
-fn signature_before(
-    alloc: Global,
-    signature: Signature,
-    next: usize,
-) -> Result<String, AllocError> {
-    let printed = print_last(alloc, signature)?;
-    format!(in alloc; "{printed} @{next}")
 }

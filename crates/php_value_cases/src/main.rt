@@ -23,10 +23,6 @@ use std::io;
 struct Values;
 
 impl Subject for Values {
-    fn tell(&mut self, _: Global, _: &str) -> Result<(), AllocError> {
-        Ok(())
-    }
-
     fn answer(&mut self, alloc: Global, asked: &str) -> Result<String, AllocError> {
         match answer_of(alloc, asked) {
             Ok(answer) => Ok(answer),

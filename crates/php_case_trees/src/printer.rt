@@ -1,4 +1,4 @@
-// Prints scripts, so that texts show which part is whose.
+// Prints trees. What is printed and let go of here stands nowhere else, since letting go of a tree takes the check long.
 //
 // The tokens of an expression stand between backquotes. A statement that is a body stands in `[` and `]`, a list of statements in
 // `{` and `}`. `nothing` is the empty statement. The words `array` and `callable` stand in `<` and `>` where they are types of
@@ -7,8 +7,7 @@
 mod declarations;
 mod statements;
 
-use crate::answer::repeated;
-use php_ast::{Expr, Name, Script, ScriptItem};
+use php_ast::{Expr, Name, Script, ScriptItem, Signature, Stmt};
 use php_base::NoMemory;
 use php_print::{lay_out, print_expr};
 use php_value::Text;
@@ -17,19 +16,41 @@ use std::alloc::{AllocError, Global};
 /// How many statements may stand in one another: more than the parser allows.
 const DEEPEST: usize = 400;
 
-/// A script that nobody needs any more, without so many blocks around it. It is let go of in one place, since letting go of a
-/// tree takes the check long.
-pub(crate) fn print_last(
-    alloc: Global,
-    script: Script,
-    blocks: usize,
-) -> Result<String, AllocError> {
-    let mut printer = Printer {
-        alloc,
-        out: String::new(alloc),
-    };
+/// A mark some times over.
+pub fn repeated(alloc: Global, mark: char, times: usize) -> Result<String, AllocError> {
+    let mut marks = String::new(alloc);
+    for _ in 0..times {
+        marks.push(mark)?;
+    }
+    Ok(marks)
+}
+
+/// A script that nobody needs any more, without so many blocks around it.
+pub fn print_script(alloc: Global, script: Script, blocks: usize) -> Result<String, AllocError> {
+    let mut printer = Printer::new(alloc);
     printer.script(&script)?;
     unwrapped(alloc, printer.out.as_str(), blocks)
+}
+
+/// An expression that nobody needs any more.
+pub(crate) fn print_expression(alloc: Global, e: Expr) -> Result<String, AllocError> {
+    let mut printer = Printer::new(alloc);
+    printer.value(&e)?;
+    Ok(printer.out)
+}
+
+/// A statement that nobody needs any more.
+pub(crate) fn print_statement(alloc: Global, statement: Stmt) -> Result<String, AllocError> {
+    let mut printer = Printer::new(alloc);
+    printer.statement(&statement, DEEPEST)?;
+    Ok(printer.out)
+}
+
+/// A signature that nobody needs any more.
+pub(crate) fn print_signature(alloc: Global, signature: Signature) -> Result<String, AllocError> {
+    let mut printer = Printer::new(alloc);
+    printer.signature(&signature)?;
+    Ok(printer.out)
 }
 
 // Without a `{` in front and a `}` behind for each block.
@@ -57,6 +78,13 @@ pub(crate) struct Printer {
 }
 
 impl Printer {
+    fn new(alloc: Global) -> Printer {
+        Printer {
+            alloc,
+            out: String::new(alloc),
+        }
+    }
+
     pub(crate) fn put(&mut self, text: &str) -> Result<(), AllocError> {
         self.out.push_str(text)
     }

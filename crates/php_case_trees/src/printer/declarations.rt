@@ -62,7 +62,7 @@ impl Printer {
         self.value_if(" = ", &param.default)
     }
 
-    fn signature(&mut self, signature: &Signature) -> Result<(), AllocError> {
+    pub(crate) fn signature(&mut self, signature: &Signature) -> Result<(), AllocError> {
         self.put("(")?;
         let mut is_later = false;
         for param in signature.params.as_slice() {

@@ -1,5 +1,5 @@
 use Rattle.std.proofs.Common.{◌+◌, ◌*◌}
-use Rattle.php_parse_script_texts.proofs.printer.Printer.+printing.Given as goal
+use Rattle.php_case_trees.proofs.printer.Printer.+printing.Given as goal
 
 abbrev pub decreases-statement : goal.decreases-statement
 decreases-statement l = 10 * l.depth

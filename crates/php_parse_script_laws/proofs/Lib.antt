@@ -1,0 +1,9 @@
+mod Alone
+mod Layers
+mod Unview
+mod Parts
+mod Nodes
+mod Declarations
+mod Results
+mod Facts
+mod Answers

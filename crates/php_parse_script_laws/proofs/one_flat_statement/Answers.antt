@@ -1,0 +1,5 @@
+use Rattle.php_parse_script_laws.proofs.Answers.{one_flat_statement}
+use Rattle.php_parse_script_laws.proofs.one_flat_statement.Goals as goal
+
+pub returns : goal.returns
+returns c = one_flat_statement
