@@ -1,12 +1,11 @@
 -- A change of an object that leaves its properties.
-use Rattle.std.proofs.Common.{◌≡◌, ◌+◌, ◌-◌, ◌<◌, ℕ, zero, suc, List, [], ◌∷◌, length, refl, sym, ◌∙◌, ap, subst, arith}
-use Rattle.std.specs.Prelude.{Option, Some, None, Box, option_map, unwrap_or, slice_index_or, slice_set, IsSome, is_some}
+use Rattle.std.proofs.Common.{◌≡◌, ◌+◌, ◌-◌, ◌<◌, ℕ, suc, List, [], length, refl, sym, ◌∙◌, ap, subst, arith}
+use Rattle.std.specs.Prelude.{Option, Some, None, Box, unwrap_or, slice_index_or, slice_set, is_some}
 use Rattle.std.specs.declared.alloc.Global.{Global}
-use Rattle.std.specs.Global.{Vec}
-use Rattle.php_memdef.specs.Numbered.{Numbered, numbered, with_numbered}
+use Rattle.php_memdef.specs.Numbered.{numbered, with_numbered}
 use Rattle.php_memdef.specs.Contents.{Mem, no_object, object_of}
 use Rattle.php_memdef.specs.Contents as model
-use Rattle.php_memdef.specs.Holders.{times, stores_of_object, holders, object_holders}
+use Rattle.php_memdef.specs.Holders.{times, stores_of_object, object_holders}
 use Rattle.php_memdef.specs.Conditions.{IsObject}
 use Rattle.php_memdef.specs.Places.{with_object}
 use Rattle.php_memdef.specs.Alike.{renamed_object}
@@ -14,8 +13,8 @@ use Rattle.php_memdef_laws.proofs.Alike.Totals.{object_holders-renamed}
 use Rattle.php_memdef_laws.proofs.Held.Parts.{holders-with_object, handles-with_object}
 use Rattle.php_memplain_cells.specs.declared.objects.Object.{Object}
 use Rattle.php_memplain_cells.specs.declared.cells.Cells.{Cells}
-use Rattle.php_memplain_cells.specs.Seen.{object_seen, box_seen, objects_seen, stores_seen}
-use Rattle.php_memplain_cells.specs.Counts.{handles_if, count_of_store, count_of_object, AreSameHandles}
+use Rattle.php_memplain_cells.specs.Seen.{object_seen, objects_seen, stores_seen}
+use Rattle.php_memplain_cells.specs.Counts.{count_of_store, count_of_object, AreSameHandles}
 use Rattle.php_memplain_cells.specs.Memory.{memory_seen, IsCounted}
 use Rattle.php_memplain_cells.proofs.SlotLemmas.{set_twice, any_default}
 use Rattle.php_memplain_cells.proofs.ObjectLemmas.{found, put_seen, there_seen, same_put}

@@ -1,13 +1,12 @@
 -- The copy of a content, against the model's.
-use Rattle.std.proofs.Common.{◌≡◌, ℕ, ◌+◌, ◌<◌, List, [], ◌∷◌, length, refl, sym, ◌∙◌, ap, subst, arith}
-use Rattle.std.specs.Prelude.{Option, Some, None, IsSome, is_some, false}
-use Rattle.std.proofs.lemmas.Bool.{false≢true}
+use Rattle.std.proofs.Common.{◌≡◌, ℕ, ◌<◌, List, [], ◌∷◌, length, refl, sym, ◌∙◌, ap, subst, arith}
+use Rattle.std.specs.Prelude.{Option, Some, None, IsSome, is_some}
 use Rattle.php_memdef.specs.declared.place.Place.{Place}
 use Rattle.php_memdef.specs.declared.answer.Read.TheVariants.{Found, Absent}
 use Rattle.php_memdef.specs.Numbered.{numbered}
 use Rattle.php_memdef.specs.Contents.{Content, Item, value, link, Scope, Mem, content_of, scope_of}
-use Rattle.php_memdef.specs.Holders.{times, stores_of_item, stores_of_content, handles_of_content, holders}
-use Rattle.php_memdef.specs.Sound.{IsLive, IsClosed}
+use Rattle.php_memdef.specs.Holders.{times, stores_of_item, holders}
+use Rattle.php_memdef.specs.Sound.{IsLive}
 use Rattle.php_memdef.specs.Conditions.{IsBlock, HasFallingRoom}
 use Rattle.php_memdef.specs.Meanings.{Keeps}
 use Rattle.php_memdef.specs.Copies.{copied}
@@ -20,11 +19,11 @@ use Rattle.php_memdef_laws.proofs.Held.Parts.{handles_of_item, holders-with_top,
 use Rattle.php_memplain_cells.specs.declared.cells.Cells.{Cells}
 use Rattle.php_memplain_cells.specs.Seen.{stores_seen}
 use Rattle.php_memplain_cells.specs.Counts.{count_of_store, count_of_object}
-use Rattle.php_memplain_cells.specs.Memory.{memory_seen, IsCounted, IsCountedWith}
+use Rattle.php_memplain_cells.specs.Memory.{memory_seen, IsCounted}
 use Rattle.php_memplain_cells.proofs.FallingLemmas.{scope_again, scope_twice}
 use Rattle.php_memplain_cells.proofs.MemoryLemmas.{counted_by}
 use Rattle.php_memplain_copy.specs.Walking.{IsWhole, with_stores}
-use Rattle.php_memplain_content.specs.Copies.{IsMade, IsBack, CopyComesTo}
+use Rattle.php_memplain_content.specs.Copies.{IsMade, IsBack}
 use Rattle.php_memplain_copy.proofs.SameLemmas.{SameAt, same_alike}
 use Rattle.php_memplain.specs.declared.memory.MemPlain.{MemPlain}
 use Rattle.php_memplain.specs.Means.{Means}

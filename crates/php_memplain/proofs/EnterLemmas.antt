@@ -1,13 +1,11 @@
 -- A block that is made under a free number.
-use Rattle.std.proofs.Common.{◌≡◌, ◌≢◌, ℕ, ◌+◌, [], refl, sym, ◌∙◌, ap, arith, inl, inr}
-use Rattle.std.specs.Prelude.{Option, Some, None, option_map, unwrap_or}
+use Rattle.std.proofs.Common.{◌≡◌, ℕ, sym, ◌∙◌, ap, arith, inl, inr}
+use Rattle.std.specs.Prelude.{Some, None, option_map, unwrap_or}
 use Rattle.std.proofs.lemmas.Bool.Decides.{eqb_tells}
-use Rattle.std.specs.declared.alloc.Global.{Global}
-use Rattle.slab.specs.Slab as slabs
 use Rattle.slab.specs.Slab.{get, Updates}
 use Rattle.php_memdef.specs.Numbered.{numbered, with_numbered}
-use Rattle.php_memdef.specs.Contents.{Scope, Mem, no_scope, scope_of}
-use Rattle.php_memdef.specs.Holders.{times, stores_of_scope, handles_of_scope, holders, object_holders}
+use Rattle.php_memdef.specs.Contents.{Scope, no_scope, scope_of}
+use Rattle.php_memdef.specs.Holders.{times, stores_of_scope, handles_of_scope}
 use Rattle.php_memdef.specs.Temporaries.{enter}
 use Rattle.php_memdef_laws.proofs.NumberedLemmas.{numbered-with_same, numbered-with_other}
 use Rattle.php_memdef_laws.proofs.Held.Parts.{holders-with_scope, handles-with_scope}

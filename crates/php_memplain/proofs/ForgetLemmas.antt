@@ -1,12 +1,11 @@
 -- The variable of a name goes.
 use Rattle.std.proofs.Common.{◌≡◌, ◌<◌, ◌≤◌, ◌+◌, ℕ, zero, suc, List, [], ◌∷◌, ◌++◌, length, map, take, drop, refl, sym, ◌∙◌, ap, subst, arith, add-one, inl, inr, cond}
-use Rattle.std.specs.Prelude.{Bool, true, false, nat_eq, Option, Some, None, slice_index_or}
+use Rattle.std.specs.Prelude.{true, false, nat_eq, Option, Some, None, slice_index_or}
 use Rattle.std.proofs.lemmas.List.{append_assoc, map-append}
 use Rattle.std.proofs.lemmas.Bool.Decides.{eqb_tells}
 use Rattle.php_memdef.specs.Numbered.{numbered}
-use Rattle.php_memdef.specs.Contents.{link, Scope, Mem, scope_of}
-use Rattle.php_memdef.specs.Contents as model
-use Rattle.php_memdef.specs.Holders.{times, stores_of_variables, stores_of_scope, handles_of_scope}
+use Rattle.php_memdef.specs.Contents.{Scope, Mem, scope_of}
+use Rattle.php_memdef.specs.Holders.{times, stores_of_scope, handles_of_scope}
 use Rattle.php_memdef.specs.Places.{variable_store, with_scope}
 use Rattle.php_memdef.specs.Writes.{without_variable, variable_removed}
 use Rattle.php_memdef_laws.proofs.Held.Removals.{variable_gone}

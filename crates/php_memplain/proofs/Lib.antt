@@ -6,3 +6,5 @@ pub mod CopyLemmas
 pub mod ForgetLemmas
 pub mod ChangeLemmas
 pub mod TurnLemmas
+pub mod WroteLemmas
+pub mod ChangingLemmas

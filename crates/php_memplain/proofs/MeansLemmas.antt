@@ -1,5 +1,5 @@
 -- A call that does what the operation does, for each memory that is meant.
-use Rattle.std.proofs.Common.{◌≡◌, ℕ, ◌+◌, List, [], sym, ◌∙◌, ap, subst}
+use Rattle.std.proofs.Common.{◌≡◌, [], sym, ◌∙◌, ap, subst}
 use Rattle.php_memdef.specs.Contents.{Mem}
 use Rattle.php_memdef.specs.Sound.{IsClosed}
 use Rattle.php_memdef.specs.Alike.{Alike}

@@ -1,8 +1,8 @@
 -- The oldest variable goes.
-use Rattle.std.proofs.Common.{◌≡◌, ℕ, ◌+◌, List, [], ◌∷◌, ◌++◌, refl, sym, ◌∙◌, ap, arith}
+use Rattle.std.proofs.Common.{◌≡◌, ℕ, List, [], ◌∷◌, refl, sym, ap, arith}
 use Rattle.std.specs.Prelude.{true, false, Some}
 use Rattle.php_memdef.specs.Numbered.{numbered}
-use Rattle.php_memdef.specs.Contents.{link, Variable, Scope, Mem, scope_of}
+use Rattle.php_memdef.specs.Contents.{Variable, Scope, Mem, scope_of}
 use Rattle.php_memdef.specs.Holders.{times, stores_of_variables, stores_of_scope, handles_of_scope}
 use Rattle.php_memdef.specs.Places.{with_scope}
 use Rattle.php_memdef.specs.Writes.{shed_first}

@@ -1,9 +1,8 @@
 -- The topmost temporaries in reverse order.
-use Rattle.std.proofs.Common.{◌≡◌, ◌≤◌, ◌+◌, ℕ, zero, suc, List, [], ◌∷◌, ◌++◌, length, map, take, drop, refl, sym, ◌∙◌, ap, arith, length-append}
+use Rattle.std.proofs.Common.{◌≡◌, ◌+◌, ℕ, zero, suc, List, [], ◌∷◌, ◌++◌, length, map, take, drop, refl, sym, ◌∙◌, ap, arith, length-append}
 use Rattle.std.specs.Prelude.{reverse}
 use Rattle.std.proofs.lemmas.List.{append-nil, append_assoc, map-append, reverse-append, reverse-reverse, length-reverse}
 use Rattle.php_memdef.specs.Contents.{Item}
-use Rattle.php_memdef.specs.Operations as op
 use Rattle.php_memdef.specs.Temporaries.{turned, turn}
 use Rattle.php_memdef_laws.proofs.Held.Parts.{holders-turned, handles-turned}
 use Rattle.php_memplain_cells.specs.declared.content.Item.{Item as Kept}

@@ -2,12 +2,15 @@
 #![tactic(auto)]
 
 mod blocks;
+mod changing;
 mod copying;
+mod handles;
 mod memory;
 mod moves;
 mod names;
 mod objects;
 mod reading;
 mod turning;
+mod writing;
 
 pub use memory::MemPlain;

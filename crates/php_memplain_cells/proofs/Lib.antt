@@ -4,3 +4,4 @@ pub mod FirstLemmas
 pub mod ObjectLemmas
 pub mod FallingLemmas
 pub mod MemoryLemmas
+pub mod BoundLemmas

@@ -14,7 +14,7 @@ pub struct Object {
     pub finishing: bool,
     pub spent: bool,
     pub frame: Option<usize>,
-    pub holders: usize,
+    pub holders: u128,
     /// By it the object's properties join what is being released.
     pub link: Link<Load>,
 }

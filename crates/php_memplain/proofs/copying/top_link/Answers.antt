@@ -1,4 +1,4 @@
-use Rattle.std.proofs.Common.{◌≡◌, sym, ◌∙◌, ap}
+use Rattle.std.proofs.Common.{sym, ◌∙◌, ap}
 use Rattle.std.specs.Prelude.{Some}
 use Rattle.php_memplain_cells.proofs.SlotLemmas.{no_some}
 use Rattle.php_memplain.proofs.CopyLemmas.{same_item}

@@ -1,4 +1,4 @@
-use Rattle.std.proofs.Common.{◌≡◌, ◌<◌, ◌++◌, length, arith}
+use Rattle.std.proofs.Common.{◌++◌, arith}
 use Rattle.php_memdef.specs.Contents.{Scope}
 use Rattle.php_memdef.specs.Temporaries.{fallen}
 use Rattle.php_memplain_cells.specs.Seen.{item_seen}

@@ -1,4 +1,4 @@
-use Rattle.std.proofs.Common.{◌≡◌, ◌<◌, length, sym, ◌∙◌, ap, arith}
+use Rattle.std.proofs.Common.{length, sym, ◌∙◌, ap, arith}
 use Rattle.php_memdef.specs.Contents.{Scope}
 use Rattle.php_memdef.specs.Temporaries.{rest_of, top_of}
 use Rattle.php_memplain_cells.proofs.MemoryLemmas.{scope_there}

@@ -1,4 +1,4 @@
-use Rattle.std.proofs.Common.{◌≡◌, ◌∷◌}
+use Rattle.std.proofs.Common.{◌∷◌}
 use Rattle.php_memdef.specs.Contents.{Scope}
 use Rattle.php_memplain_cells.specs.Seen.{item_seen}
 use Rattle.php_memplain.proofs.MoveLemmas.{scope_changed, room_there}

@@ -1,5 +1,5 @@
-use Rattle.std.proofs.Common.{◌≡◌, ◌<◌, ◌+◌, ◌-◌, ℕ, sym, ◌∙◌, ap, subst, arith}
-use Rattle.std.specs.Prelude.{Some, None, Option, Box, slice_set}
+use Rattle.std.proofs.Common.{◌≡◌, ◌-◌, sym, ◌∙◌, subst}
+use Rattle.std.specs.Prelude.{Some, Box, slice_set}
 use Rattle.std.specs.declared.alloc.Global.{Global}
 use Rattle.php_memplain_cells.specs.declared.objects.Object.{Object}
 use Rattle.php_memplain_cells.specs.Seen.{object_seen, objects_seen}

@@ -1,6 +1,5 @@
-use Rattle.std.proofs.Common.{◌≡◌, refl, ◌∙◌, ap}
+use Rattle.std.proofs.Common.{refl, ◌∙◌, ap}
 use Rattle.std.specs.Prelude.{option_map}
-use Rattle.php_memdef.specs.Contents.{object_of}
 use Rattle.php_memdef.specs.Objects.{attach}
 use Rattle.php_memdef.specs.Operations as op
 use Rattle.php_memplain_cells.specs.Memory.{memory_seen}

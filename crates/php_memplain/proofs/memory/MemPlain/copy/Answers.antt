@@ -1,5 +1,4 @@
-use Rattle.std.proofs.Common.{◌≡◌, ◌≤◌, refl, sym, ◌∙◌, ap, subst, arith}
-use Rattle.std.specs.Prelude.{Some}
+use Rattle.std.proofs.Common.{sym, ap, subst}
 use Rattle.php_memdef.specs.declared.answer.Read.TheVariants.{Found, Absent}
 use Rattle.php_memdef.specs.Contents.{Mem, value}
 use Rattle.php_memdef.specs.Conditions.{HasRoom}

@@ -1,7 +1,7 @@
-use Rattle.std.proofs.Common.{◌≡◌, sym, ◌∙◌, ap, subst}
+use Rattle.std.proofs.Common.{sym, ◌∙◌, ap, subst}
 use Rattle.php_memdef.specs.Contents.{Item, Mem}
 use Rattle.php_memdef.specs.Holders.{stores_of_item}
-use Rattle.php_memdef.specs.Temporaries.{popped, top, let_fall, drop_top}
+use Rattle.php_memdef.specs.Temporaries.{popped, let_fall, drop_top}
 use Rattle.php_memdef.specs.Conditions.{HasFallingRoom}
 use Rattle.php_memdef.specs.Operations as op
 use Rattle.php_memdef_laws.proofs.Held.Parts.{handles_of_item}

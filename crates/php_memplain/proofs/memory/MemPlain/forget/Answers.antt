@@ -1,4 +1,4 @@
-use Rattle.std.proofs.Common.{◌≡◌, refl, sym, ◌∙◌, ap, arith}
+use Rattle.std.proofs.Common.{refl, sym, ◌∙◌, arith}
 use Rattle.slab.specs.Slab.{with_value}
 use Rattle.php_memdef.specs.Contents.{Scope, scope_of}
 use Rattle.php_memdef.specs.Places.{variable_store}

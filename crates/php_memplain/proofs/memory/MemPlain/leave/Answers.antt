@@ -1,4 +1,4 @@
-use Rattle.std.proofs.Common.{◌≡◌, map, refl, ◌∙◌, ap}
+use Rattle.std.proofs.Common.{map, refl, ◌∙◌, ap}
 use Rattle.std.specs.Prelude.{None, option_map}
 use Rattle.php_memdef.specs.Temporaries.{leave}
 use Rattle.php_memdef.specs.Operations as op

@@ -1,7 +1,7 @@
-use Rattle.std.proofs.Common.{◌≡◌, sym, ◌∙◌, ap, subst}
+use Rattle.std.proofs.Common.{sym, ◌∙◌, ap, subst}
 use Rattle.php_memdef.specs.Contents.{Item, Mem}
 use Rattle.php_memdef.specs.Holders.{stores_of_item}
-use Rattle.php_memdef.specs.Temporaries.{pushed, popped, top, pass}
+use Rattle.php_memdef.specs.Temporaries.{pushed, popped, pass}
 use Rattle.php_memdef.specs.Conditions.{IsBlock, HasRoom}
 use Rattle.php_memdef.specs.Operations as op
 use Rattle.php_memdef_laws.proofs.Held.Parts.{handles_of_item}

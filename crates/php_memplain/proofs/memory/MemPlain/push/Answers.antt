@@ -1,4 +1,4 @@
-use Rattle.std.proofs.Common.{◌≡◌, sym, ◌∙◌, ap}
+use Rattle.std.proofs.Common.{◌∙◌, ap}
 use Rattle.php_memdef.specs.Contents.{value}
 use Rattle.php_memdef.specs.Temporaries.{content_of_scalar, pushed, push}
 use Rattle.php_memdef.specs.Operations as op

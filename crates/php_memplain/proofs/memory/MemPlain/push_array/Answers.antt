@@ -1,4 +1,4 @@
-use Rattle.std.proofs.Common.{◌≡◌, refl, sym, ◌∙◌, ap}
+use Rattle.std.proofs.Common.{◌∙◌, ap}
 use Rattle.php_entries.specs.Listing.{no_entries}
 use Rattle.php_memdef.specs.Contents.{value, array}
 use Rattle.php_memdef.specs.Temporaries.{pushed, push_array}

@@ -1,4 +1,4 @@
-use Rattle.std.proofs.Common.{◌≡◌, ◌+◌, refl, sym, ◌∙◌, ap, subst}
+use Rattle.std.proofs.Common.{◌≡◌, ◌+◌, refl, ◌∙◌}
 use Rattle.slab.specs.Slab.{with_value}
 use Rattle.php_memdef.specs.Contents.{Scope, scope_of}
 use Rattle.php_memdef.specs.Temporaries.{reserve}

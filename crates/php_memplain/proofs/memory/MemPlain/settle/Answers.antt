@@ -1,4 +1,4 @@
-use Rattle.std.proofs.Common.{◌≡◌, ◌≤◌, ◌<◌, length, refl, sym, ◌∙◌, ap, subst, arith}
+use Rattle.std.proofs.Common.{sym, subst}
 use Rattle.php_memdef.specs.Contents.{Mem, value, scope_of}
 use Rattle.php_memdef.specs.Conditions.{HasTemp, HasFallingRoom}
 use Rattle.php_memdef.specs.Sound.{IsLive}

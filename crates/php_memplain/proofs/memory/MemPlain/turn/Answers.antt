@@ -1,9 +1,8 @@
-use Rattle.std.proofs.Common.{◌≡◌, [], refl, sym, ◌∙◌, ap, arith}
+use Rattle.std.proofs.Common.{[], refl, arith}
 use Rattle.slab.specs.Slab.{with_value}
 use Rattle.php_memdef.specs.Contents.{Scope}
 use Rattle.php_memdef.specs.Temporaries.{turned, turn}
 use Rattle.php_memdef.specs.Operations as op
-use Rattle.php_memplain_cells.specs.Memory.{memory_seen}
 use Rattle.php_memplain.proofs.MoveLemmas.{block_live, scope_changed, temps_length}
 use Rattle.php_memplain.proofs.MeansLemmas.{able, does}
 use Rattle.php_memplain.proofs.TurnLemmas.{turned_counted}

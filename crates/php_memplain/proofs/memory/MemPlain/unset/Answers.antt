@@ -1,0 +1,23 @@
+use Rattle.std.proofs.Common.{◌≡◌, sym}
+use Rattle.php_memdef.specs.Operations as op
+use Rattle.php_memplain.proofs.MeansLemmas.{able, does}
+use Rattle.php_memplain.proofs.ChangingLemmas.{unchanged}
+use Rattle.php_memplain.proofs.memory.MemPlain.unset.Goals as goal
+
+pub unset-requires-clause-counted : goal.unset-requires-clause-counted
+unset-requires-clause-counted c = c.requires.1.counted
+
+pub unset-requires-clause-closed : goal.unset-requires-clause-closed
+unset-requires-clause-closed c = c.requires.1.closed
+
+pub unset-requires-clause-can : goal.unset-requires-clause-can
+unset-requires-clause-can c = able c.args.self.now (op.unset c.args.block.0 c.args.at.now) c.requires
+
+pub returns-in-Ok-clause-ok : goal.returns-in-Ok-clause-ok
+returns-in-Ok-clause-ok c =
+    let s = c.args.self.now in
+    let o = op.unset c.args.block.0 c.args.at.now in
+    does s (record { cells = c.unset.new.cells }) o (able s o c.requires) c.in-Ok.ensures.ok.counted c.in-Ok.ensures.ok.seen
+
+pub returns-in-Err-clause-no_memory : goal.returns-in-Err-clause-no_memory
+returns-in-Err-clause-no_memory c = unchanged c.args.self.now (record { cells = c.unset.new.cells }) c.in-Err.ensures.no_memory

@@ -1,0 +1,15 @@
+use Rattle.php_memplain_cells.specs.Seen.{content_seen}
+use Rattle.php_memplain_places.specs.Spots.{spot_seen}
+use Rattle.php_memplain_changes.proofs.TakeLemmas.{still_there, last_taken}
+use Rattle.php_memplain_changes.proofs.taking.pop_at.Goals as goal
+
+pub swap_content-null-requires : goal.swap_content-null-requires
+swap_content-null-requires c = still_there c.args.cells.now c.swap_content-content.new.cells (spot_seen c.args.spot) c.requires.there c.swap_content-content.ensures.seen
+
+pub returns : goal.returns
+returns c =
+    last_taken c.args.cells.now c.swap_content-content.new.cells c.swap_content-null.new.cells (spot_seen c.args.spot) c.requires.there
+    (content_seen c.swap_content-content.result) (content_seen c.pop_element-rest.result.content) c.swap_content-content.ensures.before c.swap_content-content.ensures.seen c.swap_content-null.ensures.seen
+    c.requires.counted c.swap_content-content.ensures.holders c.swap_content-null.ensures.holders c.swap_content-content.ensures.objects c.swap_content-null.ensures.objects
+    c.swap_content-content.ensures.waiting c.swap_content-null.ensures.waiting c.swap_content-content.ensures.ledger c.swap_content-null.ensures.ledger
+    c.pop_element-rest.result.store c.pop_element-rest.ensures.content c.pop_element-rest.ensures.store

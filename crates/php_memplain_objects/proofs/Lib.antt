@@ -1,0 +1,5 @@
+pub mod MakeLemmas
+pub mod ElementLemmas
+pub mod PropertyLemmas
+pub mod CloneLemmas
+pub mod HandleLemmas

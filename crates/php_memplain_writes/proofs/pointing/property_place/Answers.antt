@@ -1,0 +1,21 @@
+use Rattle.std.proofs.Common.{sym, ◌∙◌, ap, subst, arith, add-one}
+use Rattle.php_memplain_writes.specs.Pointing.{has_prop_name, NoneBefore}
+use Rattle.php_memplain_writes.proofs.PointLemmas.{none_yet, none_on, first_at, none_so_far}
+use Rattle.php_memplain_writes.proofs.pointing.property_place.Goals as goal
+
+pub loop-at-init : goal.loop-at-init
+loop-at-init c = none_yet (has_prop_name c.args.name.now) c.args.properties.now.items
+
+pub returns-then-is_property_named-clause-some : goal.returns-then-is_property_named-clause-some
+returns-then-is_property_named-clause-some c =
+    first_at (has_prop_name c.args.name.now) c.args.properties.now.items c.loop-at.at c.index-property.result.now c.loop-at.invariant (let ok = c.args.properties.now.ok in omega (arith, c.loop-at-test.true, c.len.ensures))
+    (ap (has_prop_name c.args.name.now) (sym c.index-property.ensures) ∙ sym c.is_property_named.ensures ∙ c.if-is_property_named.true)
+
+pub loop-at-preserved : goal.loop-at-preserved
+loop-at-preserved c =
+    subst (NoneBefore (has_prop_name c.args.name.now) c.args.properties.now.items) (sym (add-one c.loop-at.at))
+    (none_on (has_prop_name c.args.name.now) c.args.properties.now.items c.loop-at.at c.index-property.result.now c.loop-at.invariant (let ok = c.args.properties.now.ok in omega (arith, c.loop-at-test.true, c.len.ensures))
+    (ap (has_prop_name c.args.name.now) (sym c.index-property.ensures) ∙ sym c.is_property_named.ensures ∙ c.if-is_property_named.false))
+
+pub returns-clause-none : goal.returns-clause-none
+returns-clause-none c = none_so_far (has_prop_name c.args.name.now) c.args.properties.now.items c.loop-at.at (let ok = c.args.properties.now.ok in omega (arith, c.loop-at-test.false, c.len.ensures)) c.loop-at.invariant

@@ -1,0 +1,10 @@
+use Rattle.std.proofs.Common.{◌-◌, length}
+use Rattle.php_memplain_writes.specs.Pointing.{has_prop_name, NoneBefore}
+use Rattle.php_memplain_writes.proofs.pointing.property_place.Given as goal
+
+-- none so far has the name
+abbrev pub invariant-loop-at : goal.invariant-loop-at
+invariant-loop-at l = NoneBefore (has_prop_name l.name) l.properties.items l.at
+
+abbrev pub decreases-loop-at : goal.decreases-loop-at
+decreases-loop-at l = length l.properties.items - l.at

@@ -1,0 +1,14 @@
+pub mod Standing
+pub mod Ways
+pub mod Chains
+pub mod Reached
+pub mod Grows
+pub mod Growing
+pub mod Making
+pub mod Hanging
+pub mod Moving
+pub mod Keeps
+pub mod Reaching
+pub mod Pointing
+pub mod Binding
+pub mod Comes
