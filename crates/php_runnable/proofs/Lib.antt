@@ -1,0 +1,14 @@
+pub mod Numbers
+pub mod Blocks
+pub mod Compare
+pub mod Steps
+pub mod Signatures
+pub mod Values
+pub mod Actions
+pub mod Heights
+pub mod Constants
+pub mod Fits
+pub mod Unions
+pub mod Releases
+pub mod Never
+pub mod Starts

@@ -1,0 +1,25 @@
+// Why no run of a script is stuck. Each function says it in its contract, and its body is empty.
+ghost use Rattle.std.specs.Prelude.{ℕ, List, [], ◌≢◌};
+ghost use Rattle.php_machine.specs.Moves.{Stuck};
+ghost use Rattle.php_machine.specs.Machine.{runs};
+ghost use Rattle.php_ast.specs.declaration.Tree.{Script};
+ghost use Rattle.php_ast.specs.expression.View.{Note};
+ghost use Rattle.php_actions.specs.Data.{Frame, Data};
+ghost use Rattle.php_actions.specs.Plan.{rules};
+ghost use Rattle.php_actions.specs.Start.{first, script_frame};
+ghost use Rattle.php_meaning.specs.Facts.{facts_of};
+ghost use Rattle.php_meaning.specs.Meaning.{tree};
+ghost use Rattle.php_runnable.specs.Told.{IsScriptTold};
+ghost use Rattle.php_runnable.specs.Begins.{CanBegin};
+
+/// No run of a script's tree is stuck where all forms of the script are told, under any numbers for the frames.
+pub fn told_scripts_are_never_stuck()
+    ensures { (script : Script Note) (f : Frame) (d : Data) → IsScriptTold script → CanBegin (facts_of script) f d →
+        (n : ℕ) (ns : List ℕ) → runs (rules (facts_of script)) (tree script) n ns d ≢ Stuck }
+{}
+
+/// The data with which the run of a script without arguments begins is such data.
+pub fn first_data_can_begin()
+    ensures { (script : Script Note) (allowance : ℕ) (b : ℕ) →
+        CanBegin (facts_of script) (script_frame b) (first (facts_of script) allowance [] b) }
+{}

@@ -1,0 +1,86 @@
+// A whole script.
+ghost use Rattle.std.specs.Prelude.{◌≡◌};
+ghost use Rattle.php_ast.specs.declaration.View.{script_view};
+ghost use Rattle.php_memdef.specs.Contents.{fresh};
+ghost use Rattle.php_actions.specs.Effect.{nth_fact};
+ghost use Rattle.php_actions.specs.Start.{room_if};
+ghost use Rattle.php_vm.specs.Finishing.{StopFaults};
+ghost use Rattle.php_runnable.specs.Told.{IsScriptTold};
+ghost use Rattle.php_runnable_code.specs.Runnable.{IsRunnable};
+ghost use Rattle.php_vm_callers.specs.Outcomes.{HasRun, RunsAs};
+
+use crate::start::{begin, can_run};
+use php_ast::Script;
+use php_base::Sink;
+use php_code::Program;
+use php_compile::compile;
+use php_memdef::Memory;
+use php_vm::{Ended, Stop, Vm};
+use std::alloc::Global;
+
+/// Runs a script without arguments, takes so many ticks at most, and hands the memory back. All forms of the script are
+/// told, and in the memory nothing was made yet.
+///
+/// It answers how the script's own run ends, with its ticks and its output. SinkFault and NoMemory come with the beginning of
+/// that output, and no more ticks.
+pub fn run_script<M: Memory, K: Sink>(
+    alloc: Global,
+    script: &Script,
+    memory: M,
+    allowance: u64,
+    out: &mut K,
+) -> Ended<M>
+    requires told { IsScriptTold (script_view script.now) }
+    requires nothing_made { M.means memory fresh }
+    ensures runs { RunsAs (script_view script.now) allowance (M.means result.memory)
+        (K.written out.new) (K.written out.old) result.ticks result.stop }
+    ensures faults { StopFaults result.stop (K.faults out.old) (K.faults out.new) }
+{
+    match compile(alloc, script) {
+        Ok(program) => run_program(alloc, &program, memory, allowance, out),
+        Err(_) => Ended {
+            stop: Stop::NoMemory,
+            ticks: 0,
+            memory,
+        },
+    }
+}
+
+/// Runs a program without arguments, one that the machine may run, over a memory in which nothing was made yet.
+pub fn run_program<M: Memory, K: Sink>(
+    alloc: Global,
+    program: &Program,
+    memory: M,
+    allowance: u64,
+    out: &mut K,
+) -> Ended<M>
+    requires runnable { IsRunnable program.now }
+    requires nothing_made { M.means memory fresh }
+    ensures runs { HasRun program.now allowance (M.means result.memory)
+        (K.written out.new) (K.written out.old) result.ticks result.stop }
+    ensures faults { StopFaults result.stop (K.faults out.old) (K.faults out.new) }
+{
+    let mut memory = memory;
+    let room = room_of(program, 0);
+    match begin(alloc, &mut memory, room) {
+        Ok(frame) => {
+            can_run(program, &memory, &frame, room, allowance);
+            Vm { memory, frame }.run(alloc, program, allowance, out)
+        }
+        Err(_) => Ended {
+            stop: Stop::NoMemory,
+            ticks: 0,
+            memory,
+        },
+    }
+}
+
+// The room that a function's block has for temporaries.
+fn room_of(program: &Program, function: u32) -> usize
+    ensures { result ≡ room_if (nth_fact program.now.facts.functions function) }
+{
+    match program.facts.functions.get(function as usize) {
+        None => 0,
+        Some(fact) => fact.room,
+    }
+}
