@@ -1,5 +1,5 @@
 // Shared bytes that do not change.
-ghost use Rattle.std.specs.Prelude.{◌≡◌, ◌++◌, [], IfOk};
+ghost use Rattle.std.specs.Prelude.{◌≡◌, ◌++◌, [], IfOk, OnErr};
 
 use php_base::NoMemory;
 use std::alloc::{AllocError, Global};
@@ -68,24 +68,34 @@ impl Text {
         }
     }
 
-    /// The bytes and then `more`. Where the text has no other owner it grows in place, with room to spare, so that many
-    /// appends copy each byte a few times at most. Otherwise its bytes are copied.
+    /// The bytes and then `more`, as `extend` puts them.
     pub fn append(self, alloc: Global, more: &[u8]) -> Result<Text, NoMemory>
         ensures { IfOk result (λ t. t ≡ self ++ more.now) }
     {
-        let Text { bytes } = self;
-        let Some(mut shared) = bytes else {
-            return Text::from_bytes(alloc, more);
-        };
-        match Rc::get_mut(&mut shared) {
-            Some(own) => {
-                own.extend_from_slice(more)?;
-                Ok(Text {
-                    bytes: Some(shared),
-                })
+        let mut text = self;
+        text.extend(alloc, more)?;
+        Ok(text)
+    }
+
+    /// Puts `more` behind the bytes. Where the text has no other owner it grows in place, with room to spare, so that
+    /// many appends copy each byte a few times at most. Otherwise its bytes are copied. Where memory is short the text
+    /// stays as it was.
+    pub fn extend(&mut self, alloc: Global, more: &[u8]) -> Result<(), NoMemory>
+        ensures longer { IfOk result (λ _. self.new ≡ self.old ++ more.now) }
+        ensures kept { OnErr result (self.new ≡ self.old) }
+    {
+        if let Some(shared) = &mut self.bytes {
+            match Rc::get_mut(shared) {
+                Some(own) => own.extend_from_slice(more)?,
+                None => {
+                    let copy = Rc::new(alloc, extended(alloc, shared.as_slice(), more)?)?;
+                    *shared = copy;
+                }
             }
-            None => Text::from_vec(alloc, extended(alloc, shared.as_slice(), more)?),
+            return Ok(());
         }
+        *self = Text::from_bytes(alloc, more)?;
+        Ok(())
     }
 }
 
