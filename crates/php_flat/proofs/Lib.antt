@@ -1,2 +1,3 @@
 pub mod Nodes
 mod Examples
+pub mod Lists

@@ -1,6 +1,6 @@
 -- From what the parser does among all open forms to what its answers say of the tokens.
-use Rattle.std.proofs.Common.{◌≡◌, ◌≤◌, ◌<◌, true, false, ℕ, suc, ◌+◌, ◌-◌, List, [], ◌∷◌, ◌++◌, map, take, drop, length, refl, sym, ◌∙◌, ap, subst, arith, append_assoc}
-use Rattle.std.proofs.lemmas.List.{take-append-drop, drop-drop, length-map, length-take, length-drop, map-append}
+use Rattle.std.proofs.Common.{◌≡◌, ◌≤◌, ◌<◌, true, false, ℕ, suc, ◌+◌, ◌-◌, List, [], ◌∷◌, ◌++◌, take, drop, length, refl, sym, ◌∙◌, ap, subst, arith}
+use Rattle.std.proofs.lemmas.List.{length-map, length-drop}
 use Rattle.php_token.specs.Token.{Token}
 use Rattle.php_reader.specs.declared.limit.TheConstants.{LEAST_POWER}
 use Rattle.php_ast.specs.Symbol.{Symbol, symbol}
@@ -21,43 +21,12 @@ use Rattle.php_reader.specs.Seen.{rest}
 use Rattle.php_parse_operands.specs.Answer.{Found, StopsAt, Fails}
 use Rattle.php_parse_expression.specs.Exact.{between, symbols, Reaches, IsRead, IsSyntax, IsTooDeep, IsRefused}
 use Rattle.php_reader.specs.Line.{IsLined, line_at}
+use Rattle.php_parse_expression.proofs.Between.{split, symbols_length, more_between, first_of, with_next}
 use Rattle.php_parse_expression.proofs.Blanks.{blank}
 use Rattle.php_parse_expression.proofs.Depths.{AllWithin, none_deep, first_deep}
-use Rattle.php_parse_expression.proofs.Wholes.{cancel, over, ends_deep, whole_walk, short_walk, deep_walk}
+use Rattle.php_parse_expression.proofs.Wholes.{over, ends_deep, whole_walk, short_walk, deep_walk}
 use Rattle.php_parse_expression.proofs.Walked.{walks, EndsIn}
 use Rattle.php_ast.specs.expression.Nesting.{nests}
-
--- ---- the tokens between two places
-
-pub split : (tokens : List Token) (at k : ℕ) → at ≤ k → rest tokens at ≡ symbols tokens at k ++ rest tokens k
-split tokens at k h =
-    ap (map symbol) (sym (take-append-drop (k - at) (drop at tokens))) ∙ map-append symbol (take (k - at) (drop at tokens)) (drop (k - at) (drop at tokens))
-    ∙ ap (λ z. symbols tokens at k ++ map symbol z) (drop-drop (k - at) at tokens ∙ ap (λ n. drop n tokens) (omega arith))
-
-pub symbols_length : (tokens : List Token) (at k : ℕ) → at ≤ k → k ≤ length tokens → length (symbols tokens at k) ≡ k - at
-symbols_length tokens at k h g = omega (arith, length-map (between tokens at k) symbol, length-take (k - at) (drop at tokens), length-drop at tokens)
-
--- more of the tokens begin with a further one
-between_more : (tokens : List Token) (at k j : ℕ) → at ≤ k → k ≤ j → j ≤ length tokens → symbols tokens at j ≡ symbols tokens at k ++ symbols tokens k j
-between_more tokens at k j h g within =
-    let whole_is : symbols tokens at j ++ rest tokens j ≡ (symbols tokens at k ++ symbols tokens k j) ++ rest tokens j =
-    sym (split tokens at j (omega arith)) ∙ split tokens at k h ∙ ap (λ z. symbols tokens at k ++ z) (split tokens k j g) ∙ sym (append_assoc (symbols tokens at k) (symbols tokens k j) (rest tokens j)) in
-    cancel (symbols tokens at j) (symbols tokens at k ++ symbols tokens k j) (rest tokens j) whole_is
-
--- the first of some tokens
-pub record Heads (tokens : List Token) (k j : ℕ) : Type 0 where
-  pub token : Symbol
-  pub more : List Symbol
-  pub behind : List Symbol
-  pub here : symbols tokens k j ≡ token ∷ more
-  pub front : rest tokens k ≡ token ∷ behind
-
-heads_by : (tokens : List Token) (k j : ℕ) (u : List Symbol) → symbols tokens k j ≡ u → length u ≡ j - k → k < j → rest tokens k ≡ u ++ rest tokens j → Heads tokens k j
-heads_by tokens k j [] is len less whole_is = absurd (omega arith)
-heads_by tokens k j (t ∷ u) is len less whole_is = record { token = t; more = u; behind = u ++ rest tokens j; here = is; front = whole_is }
-
-heads : (tokens : List Token) (k j : ℕ) → k < j → j ≤ length tokens → Heads tokens k j
-heads tokens k j less within = heads_by tokens k j (symbols tokens k j) refl (symbols_length tokens k j (omega arith) within) less (split tokens k j (omega arith))
 
 reaches : (tokens : List Token) (at k : ℕ) → at ≤ k → k ≤ length tokens → BeginsExpression (symbols tokens at k)
     → ((t : Symbol) (v x : List Symbol) → rest tokens k ≡ t ∷ v → BeginsExpression (symbols tokens at k ++ t ∷ x) → ⊥) → Reaches tokens at k
@@ -66,8 +35,8 @@ reaches tokens at k ahead within begins most = record {
   within = within;
   begins = begins;
   most = λ j less in_range b.
-      let h = heads tokens k j less in_range in
-      most h.token h.behind h.more h.front (subst BeginsExpression (between_more tokens at k j ahead (omega arith) in_range ∙ ap (λ z. symbols tokens at k ++ z) h.here) b);
+      let f = first_of (rest tokens k) (symbols tokens k j) (rest tokens j) (split tokens k j (omega arith)) (omega (arith, symbols_length tokens k j (omega arith) in_range)) in
+      most f.token (f.more ++ rest tokens j) f.more f.front (subst BeginsExpression (more_between tokens at k j ahead (omega arith) ∙ ap (λ z. symbols tokens at k ++ z) f.here) b);
 }
 
 -- ---- answers
@@ -112,10 +81,6 @@ never_deep n w h =
     let e = ends_deep n k.to k.left [] (subst (λ o. EndsIn n k.to k.left o) h k.ends) in
     let is : [] ≡ e.token ∷ e.more = e.is in cc
 
-single_symbol : (u : List Symbol) (t : Symbol) (more : List Symbol) → u ≡ t ∷ more → length u ≡ 1 → u ≡ t ∷ []
-single_symbol u t [] is len = is
-single_symbol u t (x ∷ more) is len = absurd (omega (arith, ap length is))
-
 deep_token : (n : ℕ) (tokens : List Token) (at k : ℕ) → walk n (expects []) (rest tokens at) ≡ deep (rest tokens k) → k ≤ length tokens → at ≤ k → k < length tokens
 deep_token n tokens at k walked within ahead = deep_by (rest tokens k) refl
   where
@@ -127,10 +92,9 @@ pub is_too_deep : (depth room n : ℕ) (tokens : List Token) (at k line : ℕ) �
 is_too_deep depth room n tokens at k line room_is sum stops on_line =
     let walked : walk n (expects []) (rest tokens at) ≡ deep (rest tokens k) = stops.halts.same n [] tt (omega arith) (omega arith) in
     let inside : k < length tokens = deep_token n tokens at k walked stops.within stops.ahead in
-    let h = heads tokens k (k + 1) (omega arith) (omega arith) in
-    let one : symbols tokens k (k + 1) ≡ h.token ∷ [] = single_symbol (symbols tokens k (k + 1)) h.token h.more h.here (symbols_length tokens k (k + 1) (omega arith) (omega arith) ∙ omega arith) in
-    let more : symbols tokens at (k + 1) ≡ symbols tokens at k ++ h.token ∷ [] = between_more tokens at k (k + 1) stops.ahead (omega arith) (omega arith) ∙ ap (λ z. symbols tokens at k ++ z) one in
-    let w = deep_walk n (rest tokens at) (symbols tokens at k) h.token h.behind (split tokens at k stops.ahead ∙ ap (λ z. symbols tokens at k ++ z) h.front) (walked ∙ ap deep h.front) in
+    let f = first_of (rest tokens k) (symbols tokens k (k + 1)) (rest tokens (k + 1)) (split tokens k (k + 1) (omega arith)) (omega (arith, symbols_length tokens k (k + 1) (omega arith) (omega arith))) in
+    let more : symbols tokens at (k + 1) ≡ symbols tokens at k ++ f.token ∷ [] = with_next tokens at k f.token (f.more ++ rest tokens (k + 1)) stops.ahead inside f.front in
+    let w = deep_walk n (rest tokens at) (symbols tokens at k) f.token (f.more ++ rest tokens (k + 1)) (split tokens at k stops.ahead ∙ ap (λ z. symbols tokens at k ++ z) f.front) (walked ∙ ap deep f.front) in
     record {
       ahead = stops.ahead;
       within = inside;

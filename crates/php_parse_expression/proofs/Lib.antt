@@ -6,4 +6,5 @@ pub mod Depths
 pub mod Walked
 pub mod Wholes
 pub mod Blanks
+pub mod Between
 pub mod Exactly

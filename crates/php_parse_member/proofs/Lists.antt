@@ -1,8 +1,5 @@
--- Lists with one more, and the parts of members as trees.
-use Rattle.std.proofs.Common.{◌≡◌, ℕ, ◌+◌, Bool, true, Some, None, List, [], ◌∷◌, ◌++◌, map, refl, sym, ◌∙◌, ap, arith}
-use Rattle.std.specs.Prelude.{◌&&◌}
-use Rattle.std.specs.List.{list_all}
-use Rattle.php_build.proofs.Flats.{both, first_of, second_of}
+-- The parts of members as trees.
+use Rattle.std.proofs.Common.{◌≡◌, ℕ, ◌+◌, Some, None, List, ◌∙◌, ap, arith}
 use Rattle.php_token.specs.Token.{Token}
 use Rattle.php_ast.specs.declared.spot.Spot.{Spot}
 use Rattle.php_ast.specs.declared.declaration.ModifierWord.{ModifierWord}
@@ -10,41 +7,13 @@ use Rattle.php_ast.specs.expression.Tree.{Tree}
 use Rattle.php_ast.specs.expression.Tree as tree
 use Rattle.php_ast.specs.expression.View.{Note, spot_view}
 use Rattle.php_ast.specs.expression.Placed.{noted, noted_member, notes_of}
-use Rattle.php_ast.specs.statement.Tree.{Sequence, empty, then_also, Name}
+use Rattle.php_ast.specs.statement.Tree.{Name}
 use Rattle.php_ast.specs.statement.Placed.{noted_name, noted_variable}
-use Rattle.php_ast.specs.statement.View.{sequence_from, sequence}
 use Rattle.php_ast.specs.declaration.Tree.{Modifier}
 use Rattle.php_ast.specs.declaration.View.{modifier_view}
-use Rattle.php_ast.specs.declaration.Placed.{size_joined, noted_joined, noted_modifier, noted_class_constant}
+use Rattle.php_ast.specs.declaration.Placed.{noted_modifier, noted_class_constant}
 use Rattle.php_grammar.specs.expression.Machine.{Nothing, Form}
 use Rattle.php_grammar.specs.declaration.MemberMachine.{Word}
-
--- ---- all of a list
-
-all_more : {A : Type 0} (p : A → Bool) (xs : List A) (x : A) → list_all p xs ≡ true → p x ≡ true → list_all p (xs ++ x ∷ []) ≡ true
-all_more p [] x all one = ap (λ b. b && true) one
-all_more p (y ∷ xs) x all one = both (first_of (p y) (list_all p xs) all) (all_more p xs x (second_of (p y) (list_all p xs) all) one)
-
-pub all_with : {A : Type 0} (p : A → Bool) (xs new : List A) (x : A) → new ≡ xs ++ x ∷ [] → list_all p xs ≡ true → p x ≡ true → list_all p new ≡ true
-all_with p xs new x grown all one = ap (list_all p) grown ∙ all_more p xs x all one
-
--- ---- one behind the other
-
-sequence_end : {A : Type 0} (before : Sequence A) (xs : List A) (x : A) → sequence_from before (xs ++ x ∷ []) ≡ then_also (sequence_from before xs) x
-sequence_end before [] x = refl
-sequence_end before (y ∷ xs) x = sequence_end (then_also before y) xs x
-
-map_end : {A B : Type 0} (f : A → B) (xs : List A) (x : A) → map f (xs ++ x ∷ []) ≡ map f xs ++ f x ∷ []
-map_end f [] x = refl
-map_end f (y ∷ xs) x = ap (λ v. f y ∷ v) (map_end f xs x)
-
-sequence_push : {A B : Type 0} (f : A → B) (xs new : List A) (x : A) → new ≡ xs ++ x ∷ [] → sequence f new ≡ then_also (sequence f xs) (f x)
-sequence_push f xs new x grown = ap (sequence f) grown ∙ ap (sequence_from empty) (map_end f xs x) ∙ sequence_end empty (map f xs) (f x)
-
-pub joined_more : {A B C : Type 0} (f : C → B) (each : A → ℕ) (note : ℕ → A → B) (at place : ℕ) (ys : Sequence A) (y : A) (xs new : List C) (x : C) → new ≡ xs ++ x ∷ []
-    → sequence f xs ≡ noted_joined each note at ys → at + size_joined each ys ≡ place → f x ≡ note place y → sequence f new ≡ noted_joined each note at (then_also ys y)
-joined_more f each note at place ys y xs new x grown shown sized is =
-    sequence_push f xs new x grown ∙ ap (λ z. then_also z (f x)) shown ∙ ap (then_also (noted_joined each note at ys)) (is ∙ ap (λ k. note k y) (sym sized))
 
 -- ---- constants and properties
 

@@ -7,4 +7,3 @@ mod Inside
 mod Listings
 mod Moves
 mod Named
-mod Sequences

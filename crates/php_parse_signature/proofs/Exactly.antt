@@ -1,8 +1,8 @@
 -- From what the parser does to what its answers say of the tokens.
-use Rattle.std.proofs.Common.{◌≡◌, ◌≤◌, ◌<◌, true, false, ℕ, suc, ◌+◌, ◌-◌, List, [], ◌∷◌, ◌++◌, take, drop, length, refl, sym, ◌∙◌, ap, subst, arith, append_assoc}
-use Rattle.std.proofs.lemmas.List.{append-nil, length-map, length-drop}
+use Rattle.std.proofs.Common.{◌≡◌, ◌≤◌, ◌<◌, true, false, ℕ, suc, ◌+◌, ◌-◌, List, [], ◌∷◌, ◌++◌, take, length, refl, sym, ◌∙◌, ap, subst, arith}
+use Rattle.std.proofs.lemmas.List.{append-nil}
 use Rattle.php_token.specs.Token.{Token}
-use Rattle.php_ast.specs.Symbol.{Symbol, symbol}
+use Rattle.php_ast.specs.Symbol.{Symbol}
 use Rattle.php_ast.specs.expression.View.{Note}
 use Rattle.php_ast.specs.expression.Placed.{no_notes, notes_of}
 use Rattle.php_ast.specs.declaration.Tree.{Signature}
@@ -22,32 +22,12 @@ use Rattle.php_reader.specs.Seen.{rest}
 use Rattle.php_reader.specs.Line.{IsLined, line_at}
 use Rattle.php_parse_expression.specs.Exact.{between, symbols}
 use Rattle.php_parse_expression.proofs.Depths.{AllWithin, none_deep, first_deep}
-use Rattle.php_parse_expression.proofs.Exactly.{split, symbols_length}
-use Rattle.php_parse_expression.proofs.Wholes.{cancel}
+use Rattle.php_parse_expression.proofs.Between.{split, symbols_length, more_between, first_of, stands, with_next}
 use Rattle.php_parse_signature.specs.declared.read.ReadSignature.{ReadSignature}
 use Rattle.php_parse_signature.specs.Answer.{StopsAt, Fails, FoundSignature}
 use Rattle.php_parse_signature.specs.Exact.{Reaches, IsRead, IsSyntax, IsTooDeep, IsRefused}
 use Rattle.php_parse_signature.proofs.Blanks.{blank_signature}
 use Rattle.php_parse_signature.proofs.Tells.{whole_walk, short_walk, deep_walk}
-
--- ---- the tokens between two places
-
--- more of the tokens begin with a further one
-more_between : (tokens : List Token) (at k j : ℕ) → at ≤ k → k ≤ j → symbols tokens at j ≡ symbols tokens at k ++ symbols tokens k j
-more_between tokens at k j h g =
-    cancel (symbols tokens at j) (symbols tokens at k ++ symbols tokens k j) (rest tokens j)
-    (sym (split tokens at j (omega arith)) ∙ split tokens at k h ∙ ap (λ z. symbols tokens at k ++ z) (split tokens k j g) ∙ sym (append_assoc (symbols tokens at k) (symbols tokens k j) (rest tokens j)))
-
--- the first of some tokens
-pub record First (w : List Symbol) (u v : List Symbol) : Type 0 where
-  pub token : Symbol
-  pub more : List Symbol
-  pub here : u ≡ token ∷ more
-  pub front : w ≡ token ∷ (more ++ v)
-
-first_of : (w u v : List Symbol) → w ≡ u ++ v → 0 < length u → First w u v
-first_of w [] v is some = absurd (omega arith)
-first_of w (t ∷ u) v is some = record { token = t; more = u; here = refl; front = is }
 
 reaches : (tokens : List Token) (at k : ℕ) → at ≤ k → k ≤ length tokens → BeginsSignature (symbols tokens at k)
     → ((t : Symbol) (v x : List Symbol) → rest tokens k ≡ t ∷ v → BeginsSignature (symbols tokens at k ++ t ∷ x) → ⊥) → Reaches tokens at k
@@ -91,21 +71,6 @@ is_syntax depth room n tokens at k room_is sum stops =
       shallow = λ s more spells. none_deep depth (take (k - at) (signature_nests s 0 [])) (w.shallow depth (k - at) s more sum (symbols_length tokens at k stops.ahead stops.within) spells);
       on_line = refl;
     }
-
-alone : (u : List Symbol) (t : Symbol) (v w : List Symbol) → t ∷ w ≡ u ++ v → length u ≡ 1 → u ≡ t ∷ []
-alone [] t v w is len = absurd (omega arith)
-alone (x ∷ []) t v w is len = let same : t ≡ x = cc in ap (λ y. y ∷ []) (sym same)
-alone (x ∷ y ∷ u) t v w is len = absurd (omega arith)
-
-stands : (tokens : List Token) (k : ℕ) (t : Symbol) (w : List Symbol) → rest tokens k ≡ t ∷ w → k ≤ length tokens → k < length tokens
-stands tokens k t w is within = omega (arith, ap length is, length-map (drop k tokens) symbol, length-drop k tokens)
-
--- the tokens up to one and with it
-with_next : (tokens : List Token) (at k : ℕ) (t : Symbol) (w : List Symbol) → at ≤ k → k < length tokens → rest tokens k ≡ t ∷ w → symbols tokens at (k + 1) ≡ symbols tokens at k ++ t ∷ []
-with_next tokens at k t w ahead inside is =
-    more_between tokens at k (k + 1) ahead (omega arith)
-    ∙ ap (λ z. symbols tokens at k ++ z)
-    (alone (symbols tokens k (k + 1)) t (rest tokens (k + 1)) w (sym is ∙ split tokens k (k + 1) (omega arith)) (symbols_length tokens k (k + 1) (omega arith) (omega arith) ∙ omega arith))
 
 is_too_deep : (depth room n : ℕ) (tokens : List Token) (at k : ℕ) → room ≡ suc n → n + depth ≡ 128 → StopsAt true room due_signature (rest tokens at) tokens at k → IsTooDeep depth tokens at k (line_at tokens k)
 is_too_deep depth room n tokens at k room_is sum stops =

@@ -1,17 +1,15 @@
 -- The result, the parameters one after the other, and the whole signature.
-use Rattle.std.proofs.Common.{◌≡◌, ℕ, suc, ◌+◌, true, Option, Some, List, [], ◌∷◌, ◌++◌, map, refl, sym, ◌∙◌, ap, arith, Bool, false, None}
-use Rattle.std.specs.Prelude.{◌&&◌}
-use Rattle.std.specs.List.{list_all}
-use Rattle.php_build.proofs.Flats.{both, first_of, second_of}
+use Rattle.std.proofs.Common.{◌≡◌, ℕ, suc, ◌+◌, true, Option, Some, List, [], ◌∷◌, ◌++◌, refl, sym, ◌∙◌, ap, arith, Bool, false, None}
+use Rattle.php_flat.proofs.Lists.{pushed}
 use Rattle.php_token.specs.Token.{Token}
 use Rattle.php_token.specs.declared.kind.Punct.TheVariants as mark
 use Rattle.php_ast.specs.Symbol.{Symbol, punct}
 use Rattle.php_ast.specs.declared.declaration.Param as rust_param
 use Rattle.php_ast.specs.declared.declaration.Type as rust_type
 use Rattle.php_ast.specs.expression.Placed.{notes_of}
-use Rattle.php_ast.specs.statement.Tree.{Sequence, empty, then_also}
+use Rattle.php_ast.specs.statement.Tree.{empty, then_also}
 use Rattle.php_ast.specs.statement.Placed.{size_separated, size_separator, noted_separated}
-use Rattle.php_ast.specs.statement.View.{sequence_from, sequence, optional}
+use Rattle.php_ast.specs.statement.View.{sequence, optional}
 use Rattle.php_ast.specs.declaration.Tree.{Param, Type_of}
 use Rattle.php_ast.specs.declaration.Spelling.{spell_type}
 use Rattle.php_ast.specs.declaration.Placed.{size_param, noted_param, noted_declared, noted_signature}
@@ -28,15 +26,6 @@ use Rattle.php_parse_signature.proofs.Moves.{go, sticks}
 use Rattle.php_parse_signature.proofs.Tokens.{paren_shown, colon_shown}
 use Rattle.php_grammar.specs.declaration.Laws.{ResultEnds}
 
--- ---- a list with one more
-
-all_more : {A : Type 0} (p : A → Bool) (xs : List A) (x : A) → list_all p xs ≡ true → p x ≡ true → list_all p (xs ++ x ∷ []) ≡ true
-all_more p [] x all one = ap (λ b. b && true) one
-all_more p (y ∷ xs) x all one = both (first_of (p y) (list_all p xs) all) (all_more p xs x (second_of (p y) (list_all p xs) all) one)
-
-pub all_with : {A : Type 0} (p : A → Bool) (xs new : List A) (x : A) → new ≡ xs ++ x ∷ [] → list_all p xs ≡ true → p x ≡ true → list_all p new ≡ true
-all_with p xs new x grown all one = ap (list_all p) grown ∙ all_more p xs x all one
-
 -- ---- the result
 
 pub result_leads : (tokens : List Token) (at next room : ℕ) (params : Params) (t : Type_of Nothing) → Shows is_colon tokens at true → rest tokens (at + 1) ≡ spell_type t (rest tokens next)
@@ -46,17 +35,6 @@ result_leads tokens at next room params t o spelled = record {
 }
 
 -- ---- parameters one after the other
-
-push_from : {A : Type 0} (before : Sequence A) (xs : List A) (x : A) → sequence_from before (xs ++ x ∷ []) ≡ then_also (sequence_from before xs) x
-push_from before [] x = refl
-push_from before (y ∷ xs) x = push_from (then_also before y) xs x
-
-map_push : {A B : Type 0} (f : A → B) (xs : List A) (x : A) → map f (xs ++ x ∷ []) ≡ map f xs ++ f x ∷ []
-map_push f [] x = refl
-map_push f (y ∷ xs) x = ap (λ ys. f y ∷ ys) (map_push f xs x)
-
-pushed : {A B : Type 0} (f : A → B) (xs new : List A) (x : A) → new ≡ xs ++ x ∷ [] → sequence f new ≡ then_also (sequence f xs) (f x)
-pushed f xs new x is = ap (sequence f) is ∙ ap (sequence_from empty) (map_push f xs x) ∙ push_from empty (map f xs) (f x)
 
 pub params_more : (tokens : List Token) (at next : ℕ) (params : Params) (p : Param Nothing) (xs new : List rust_param.Param) (x : rust_param.Param) → new ≡ xs ++ x ∷ []
     → sequence param_view xs ≡ noted_separated size_param (noted_param (notes_of tokens)) at params

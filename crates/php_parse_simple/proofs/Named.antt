@@ -14,9 +14,10 @@ use Rattle.php_ast.specs.expression.Tree.{Tree, Items, none, and, plain}
 use Rattle.php_ast.specs.expression.View.{Note, view, values_from}
 use Rattle.php_ast.specs.expression.Placed.{size_items, comma_size, noted, noted_items, notes_of}
 use Rattle.php_ast.specs.statement.Tree.{Sequence, empty, then_also, Name, Variable, Constant, Statement, globals, statics, constants, declares}
-use Rattle.php_ast.specs.statement.View.{sequence_from, sequence}
+use Rattle.php_ast.specs.statement.View.{sequence}
 use Rattle.php_ast.specs.statement.Placed.{size_separated, noted_separated, size_name, noted_name, size_variable, noted_variable, size_constant, noted_constant}
 use Rattle.php_build.proofs.Views.{value_push}
+use Rattle.php_flat.proofs.Lists.{pushed}
 use Rattle.php_grammar.specs.declared.closer.Closer.TheVariants as ender
 use Rattle.php_grammar.specs.Run.{if_some}
 use Rattle.php_grammar.specs.TooDeep.{depth_inside}
@@ -44,21 +45,10 @@ values_more tokens at place items e xs new x grown shown sized is =
     value_push none xs new x grown ∙ ap (λ z. and z plain (view x)) shown
     ∙ ap (and (noted_items (notes_of tokens) at items) plain) (is ∙ ap (λ k. noted (notes_of tokens) k e) (omega arith))
 
-sequence_end : {A : Type 0} (before : Sequence A) (xs : List A) (x : A) → sequence_from before (xs ++ x ∷ []) ≡ then_also (sequence_from before xs) x
-sequence_end before [] x = refl
-sequence_end before (y ∷ xs) x = sequence_end (then_also before y) xs x
-
-map_end : {A B : Type 0} (f : A → B) (xs : List A) (x : A) → map f (xs ++ x ∷ []) ≡ map f xs ++ f x ∷ []
-map_end f [] x = refl
-map_end f (y ∷ xs) x = ap (λ v. f y ∷ v) (map_end f xs x)
-
-sequence_push : {A B : Type 0} (f : A → B) (xs new : List A) (x : A) → new ≡ xs ++ x ∷ [] → sequence f new ≡ then_also (sequence f xs) (f x)
-sequence_push f xs new x grown = ap (sequence f) grown ∙ ap (sequence_from empty) (map_end f xs x) ∙ sequence_end empty (map f xs) (f x)
-
 pub sequence_more : {A B C : Type 0} (f : C → B) (each : A → ℕ) (note : ℕ → A → B) (at place : ℕ) (ys : Sequence A) (y : A) (xs new : List C) (x : C) → new ≡ xs ++ x ∷ []
     → SpansSoFar (sequence f xs) each note at ys place → f x ≡ note place y → sequence f new ≡ noted_separated each note at (then_also ys y)
 sequence_more f each note at place ys y xs new x grown spans is =
-    sequence_push f xs new x grown ∙ ap (λ z. then_also z (f x)) spans.shown_is ∙ ap (then_also (noted_separated each note at ys)) (is ∙ ap (λ k. note k y) (sym spans.sized))
+    pushed f xs new x grown ∙ ap (λ z. then_also z (f x)) spans.shown_is ∙ ap (then_also (noted_separated each note at ys)) (is ∙ ap (λ k. note k y) (sym spans.sized))
 
 -- ---- where a name is due
 

@@ -1,8 +1,8 @@
 -- From what the parser does to what its answers say of the tokens.
-use Rattle.std.proofs.Common.{◌≡◌, ◌≤◌, ◌<◌, true, false, ℕ, ◌+◌, ◌-◌, Some, List, [], ◌∷◌, ◌++◌, take, drop, length, refl, sym, ◌∙◌, ap, subst, arith, append_assoc}
-use Rattle.std.proofs.lemmas.List.{append-nil, length-map, length-drop}
+use Rattle.std.proofs.Common.{◌≡◌, ◌≤◌, ◌<◌, ℕ, ◌+◌, ◌-◌, Some, List, [], ◌∷◌, ◌++◌, take, length, refl, sym, ◌∙◌, ap, subst, arith, append_assoc}
+use Rattle.std.proofs.lemmas.List.{append-nil}
 use Rattle.php_token.specs.Token.{Token}
-use Rattle.php_ast.specs.Symbol.{Symbol, symbol}
+use Rattle.php_ast.specs.Symbol.{Symbol}
 use Rattle.php_ast.specs.expression.View.{Note}
 use Rattle.php_ast.specs.expression.Placed.{no_notes, notes_of}
 use Rattle.php_ast.specs.statement.Tree.{Statement}
@@ -16,7 +16,6 @@ use Rattle.php_grammar.specs.statement.Laws.{SpellsStatement, IsSpelledStatement
 use Rattle.php_grammar.proofs.statement.Notes.{statement_again}
 use Rattle.php_grammar.proofs.declaration.NotedLaws.{one_statement_tree}
 use Rattle.php_grammar_laws.specs.Ends.{NoFurther, EndsWhole, EndsShort, EndsDeep, EndsAs}
-use Rattle.php_grammar_laws.specs.Walks.{whole, short, deep}
 use Rattle.php_grammar_laws.proofs.Knowns.{statement_walk_ends}
 use Rattle.php_reader.specs.declared.fail.Stop.{Stop}
 use Rattle.php_reader.specs.declared.fail.Stop.TheVariants.{Syntax, TooDeep, NoMemory}
@@ -24,10 +23,10 @@ use Rattle.php_reader.specs.declared.fail.ParseFail.{ParseFail}
 use Rattle.php_reader.specs.Seen.{rest}
 use Rattle.php_reader.specs.Line.{IsLined, line_at}
 use Rattle.php_parse_expression.specs.Exact.{between, symbols}
-use Rattle.php_parse_expression.proofs.Exactly.{split, symbols_length}
+use Rattle.php_parse_expression.proofs.Between.{split, symbols_length, more_between, first_of, stands, with_next}
 use Rattle.php_parse_expression.proofs.Wholes.{cancel}
 use Rattle.php_parse_simple.specs.declared.read.ReadStatement.{ReadStatement}
-use Rattle.php_parse_statement.specs.Rows.{Outermost, IsStopped, StopsAll}
+use Rattle.php_parse_statement.specs.Rows.{Outermost, StopsAll}
 use Rattle.php_parse_statement.specs.Exact.{Reaches, IsRead, IsSyntax, IsTooDeep, IsRefused}
 use Rattle.php_parse_statement.proofs.Blanks.{blank_statement}
 
@@ -39,23 +38,6 @@ depths a = nests_statement a 0 []
 -- what was read up to a place are the symbols up to there
 front_is : (tokens : List Token) (at k : ℕ) (front : List Symbol) → at ≤ k → rest tokens at ≡ front ++ rest tokens k → front ≡ symbols tokens at k
 front_is tokens at k front h is = cancel front (symbols tokens at k) (rest tokens k) (sym is ∙ split tokens at k h)
-
--- more of the tokens begin with a further one
-more_between : (tokens : List Token) (at k j : ℕ) → at ≤ k → k ≤ j → symbols tokens at j ≡ symbols tokens at k ++ symbols tokens k j
-more_between tokens at k j h g =
-    cancel (symbols tokens at j) (symbols tokens at k ++ symbols tokens k j) (rest tokens j)
-    (sym (split tokens at j (omega arith)) ∙ split tokens at k h ∙ ap (λ z. symbols tokens at k ++ z) (split tokens k j g) ∙ sym (append_assoc (symbols tokens at k) (symbols tokens k j) (rest tokens j)))
-
--- the first of some symbols
-record First (w u v : List Symbol) : Type 0 where
-  pub token : Symbol
-  pub more : List Symbol
-  pub here : u ≡ token ∷ more
-  pub front : w ≡ token ∷ (more ++ v)
-
-first_of : (w u v : List Symbol) → w ≡ u ++ v → 0 < length u → First w u v
-first_of w [] v is some = absurd (omega arith)
-first_of w (t ∷ u) v is some = record { token = t; more = u; here = refl; front = is }
 
 -- what begins a statement does so with fewer symbols
 fewer : (w x : List Symbol) → BeginsStatement (w ++ x) → BeginsStatement w
@@ -115,21 +97,6 @@ syntax_by depth tokens at k ahead within e =
           ∙ e.shallow s more (subst (λ w. SpellsStatement s (w ++ more)) (sym front) spells);
       on_line = refl;
     }
-
-alone : (u : List Symbol) (t : Symbol) (v w : List Symbol) → t ∷ w ≡ u ++ v → length u ≡ 1 → u ≡ t ∷ []
-alone [] t v w is len = absurd (omega arith)
-alone (x ∷ []) t v w is len = let same : t ≡ x = cc in ap (λ y. y ∷ []) (sym same)
-alone (x ∷ y ∷ u) t v w is len = absurd (omega arith)
-
-stands : (tokens : List Token) (k : ℕ) (t : Symbol) (w : List Symbol) → rest tokens k ≡ t ∷ w → k ≤ length tokens → k < length tokens
-stands tokens k t w is within = omega (arith, ap length is, length-map (drop k tokens) symbol, length-drop k tokens)
-
--- the tokens up to one and with it
-with_next : (tokens : List Token) (at k : ℕ) (t : Symbol) (w : List Symbol) → at ≤ k → k < length tokens → rest tokens k ≡ t ∷ w → symbols tokens at (k + 1) ≡ symbols tokens at k ++ t ∷ []
-with_next tokens at k t w ahead inside is =
-    more_between tokens at k (k + 1) ahead (omega arith)
-    ∙ ap (λ z. symbols tokens at k ++ z)
-    (alone (symbols tokens k (k + 1)) t (rest tokens (k + 1)) w (sym is ∙ split tokens k (k + 1) (omega arith)) (symbols_length tokens k (k + 1) (omega arith) (omega arith) ∙ omega arith))
 
 deep_by : (depth : ℕ) (tokens : List Token) (at k : ℕ) → at ≤ k → k ≤ length tokens → EndsDeep SpellsStatement BeginsStatement depths depth (rest tokens at) (rest tokens k) → IsTooDeep depth tokens at k (line_at tokens k)
 deep_by depth tokens at k ahead within e =

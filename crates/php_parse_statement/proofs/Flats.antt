@@ -7,7 +7,7 @@ use Rattle.php_ast.specs.declared.statement.Case.{Case}
 use Rattle.php_build.specs.Flat.{is_flat}
 use Rattle.php_build.proofs.Flats.{both}
 use Rattle.php_flat.specs.Statements.{is_flat_optional, is_flat_statement, are_flat_statements, is_flat_elseif, is_flat_elseif_list, is_flat_case}
-use Rattle.php_parse_simple.proofs.Flats.{all_with}
+use Rattle.php_flat.proofs.Lists.{all_with}
 
 pub elseifs_flat : (xs new : List (ElseIf Stmt)) (x : ElseIf Stmt) → new ≡ xs ++ x ∷ [] → list_all is_flat_elseif xs ≡ true → is_flat x.test ≡ true → is_flat_statement x.body ≡ true → list_all is_flat_elseif new ≡ true
 elseifs_flat xs new x grown all test body = all_with is_flat_elseif xs new x grown all (both test body)

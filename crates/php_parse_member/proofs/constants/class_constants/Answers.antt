@@ -12,7 +12,7 @@ use Rattle.php_grammar.specs.declaration.MemberMachine.{due_constant, past_membe
 use Rattle.php_parse_simple.proofs.Named.{sequence_more}
 use Rattle.php_parse_member.proofs.Moves.{leads, leads_halts, later}
 use Rattle.php_parse_member.proofs.Ends.{constant_ends, constant_unended}
-use Rattle.php_parse_member.proofs.Lists.{all_with}
+use Rattle.php_flat.proofs.Lists.{all_with}
 use Rattle.php_parse_member.proofs.constants.class_constants.Goals as goal
 
 pub loop-constants-init : goal.loop-constants-init

@@ -7,7 +7,8 @@ use Rattle.php_ast.specs.declaration.View.{modifier_view}
 use Rattle.php_grammar.specs.declaration.MemberMachine.{past_modifiers, with_modifier}
 use Rattle.php_parse_member.proofs.Moves.{leads}
 use Rattle.php_parse_member.proofs.Steps.{modifier_reads}
-use Rattle.php_parse_member.proofs.Lists.{joined_more, modifier_of, modifier_shown}
+use Rattle.php_flat.proofs.Lists.{joined_more}
+use Rattle.php_parse_member.proofs.Lists.{modifier_of, modifier_shown}
 use Rattle.php_parse_member.proofs.member.read_member.Goals as goal
 
 pub loop-word-init : goal.loop-word-init

@@ -9,7 +9,7 @@ use Rattle.php_flat.specs.Declarations.{is_flat_member, are_flat_members}
 use Rattle.php_grammar.specs.declaration.ScriptMachine.{due_member}
 use Rattle.php_reader.specs.Seen.{rest}
 use Rattle.php_parse_member.proofs.Moves.{leads, later}
-use Rattle.php_parse_member.proofs.Lists.{all_with, joined_more}
+use Rattle.php_flat.proofs.Lists.{all_with, joined_more}
 use Rattle.php_parse_member.proofs.Listing.{member_reads, member_fails, members_end}
 use Rattle.php_parse_member.proofs.members.members_inside.Goals as goal
 

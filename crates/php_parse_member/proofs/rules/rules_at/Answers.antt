@@ -9,7 +9,7 @@ use Rattle.php_grammar.specs.declaration.MemberMachine.{due_rule}
 use Rattle.php_parse_member.specs.RuleAnswer.{ruled}
 use Rattle.php_parse_member.proofs.Moves.{leads, later}
 use Rattle.php_parse_member.proofs.Ruled.{rules_end}
-use Rattle.php_parse_member.proofs.Lists.{joined_more}
+use Rattle.php_flat.proofs.Lists.{joined_more}
 use Rattle.php_parse_member.proofs.rules.rules_at.Goals as goal
 
 pub loop-rules-init : goal.loop-rules-init

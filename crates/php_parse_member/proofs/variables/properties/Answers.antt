@@ -11,7 +11,7 @@ use Rattle.php_grammar.specs.declaration.MemberMachine.{due_property, past_membe
 use Rattle.php_parse_simple.proofs.Named.{sequence_more}
 use Rattle.php_parse_member.proofs.Moves.{leads, leads_halts, later}
 use Rattle.php_parse_member.proofs.Ends.{property_ends, property_unended}
-use Rattle.php_parse_member.proofs.Lists.{all_with}
+use Rattle.php_flat.proofs.Lists.{all_with}
 use Rattle.php_parse_member.proofs.variables.properties.Goals as goal
 
 pub loop-properties-init : goal.loop-properties-init

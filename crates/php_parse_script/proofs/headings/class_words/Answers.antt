@@ -8,7 +8,7 @@ use Rattle.php_grammar.specs.declaration.ScriptMachine.{with_word}
 use Rattle.php_parse_script.specs.Answer.{behind_words}
 use Rattle.php_parse_script.proofs.Moves.{leads, leads_halts, stays}
 use Rattle.php_parse_script.proofs.Heads.{class_read, word_read, words_halt, begun_within, words_none, word_shown}
-use Rattle.php_parse_script.proofs.Sequences.{joined_more}
+use Rattle.php_flat.proofs.Lists.{joined_more}
 use Rattle.php_parse_script.proofs.headings.class_words.Goals as goal
 
 pub loop-words-init : goal.loop-words-init

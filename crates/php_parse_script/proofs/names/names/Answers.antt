@@ -9,7 +9,7 @@ use Rattle.php_grammar.specs.statement.Machine.{named_here}
 use Rattle.php_parse_script.specs.Owner.{owned}
 use Rattle.php_parse_script.proofs.Moves.{leads, stays, later}
 use Rattle.php_parse_script.proofs.Named.{interface_named, interface_fails, comma_read}
-use Rattle.php_parse_script.proofs.Sequences.{separated_more}
+use Rattle.php_flat.proofs.Lists.{separated_more}
 use Rattle.php_parse_script.proofs.names.names.Goals as goal
 
 pub loop-names-init : goal.loop-names-init

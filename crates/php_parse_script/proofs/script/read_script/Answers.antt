@@ -10,7 +10,7 @@ use Rattle.php_flat.specs.Declarations.{is_flat_script_item}
 use Rattle.php_grammar.specs.declaration.ScriptMachine.{due_item}
 use Rattle.php_grammar_laws.specs.Walks.{walk_script}
 use Rattle.php_parse_script.proofs.Moves.{leads, stays, later}
-use Rattle.php_parse_script.proofs.Sequences.{joined_more, all_with}
+use Rattle.php_flat.proofs.Lists.{joined_more, all_with}
 use Rattle.php_parse_script.proofs.script.read_script.Goals as goal
 
 pub loop-items-init : goal.loop-items-init

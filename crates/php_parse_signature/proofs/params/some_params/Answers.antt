@@ -7,7 +7,8 @@ use Rattle.php_grammar.specs.declaration.SignatureMachine.{due_param}
 use Rattle.php_parse_signature.specs.Answer.{behind, valued}
 use Rattle.php_flat.specs.Declarations.{are_flat_params, is_flat_param}
 use Rattle.php_parse_signature.proofs.Moves.{leads, leads_halts, later}
-use Rattle.php_parse_signature.proofs.Wholes.{params_more, all_with}
+use Rattle.php_flat.proofs.Lists.{all_with}
+use Rattle.php_parse_signature.proofs.Wholes.{params_more}
 use Rattle.php_parse_signature.proofs.Lists.{comma_leads, end_leads, neither_halts}
 use Rattle.php_parse_signature.proofs.params.some_params.Goals as goal
 

@@ -10,7 +10,7 @@ use Rattle.php_grammar.specs.statement.Role.{at_constants}
 use Rattle.php_grammar.specs.statement.Forms.{as_constant, of_constants, due_name, done}
 use Rattle.php_grammar.specs.statement.Machine.{filled}
 use Rattle.php_parse_simple.proofs.Fails.{later}
-use Rattle.php_parse_simple.proofs.Flats.{all_with}
+use Rattle.php_flat.proofs.Lists.{all_with}
 use Rattle.php_parse_simple.proofs.Moves.{leads, leads_halts}
 use Rattle.php_parse_simple.proofs.Plain.{begins}
 use Rattle.php_parse_simple.proofs.Named.{sequence_more, constants_lead, constants_halt, constants_spans}

@@ -10,7 +10,7 @@ use Rattle.php_grammar.specs.statement.Role.{at_statics}
 use Rattle.php_grammar.specs.statement.Forms.{of_statics, due_name, past_static_word, done}
 use Rattle.php_parse_simple.specs.NameAnswer.{variable_step}
 use Rattle.php_parse_simple.proofs.Fails.{later}
-use Rattle.php_parse_simple.proofs.Flats.{all_with}
+use Rattle.php_flat.proofs.Lists.{all_with}
 use Rattle.php_parse_simple.proofs.Moves.{leads, leads_halts}
 use Rattle.php_parse_simple.proofs.Plain.{begins}
 use Rattle.php_parse_simple.proofs.Named.{sequence_more, static_begins, variables_lead, variables_halt, statics_spans}

@@ -1,4 +1,4 @@
-use Rattle.std.proofs.Common.{◌+◌, map, refl, ap, arith}
+use Rattle.std.proofs.Common.{map, refl, ap, arith}
 use Rattle.std.specs.List.{list_all}
 use Rattle.std.proofs.lemmas.Result.{err_from_is_err_and}
 use Rattle.php_ast.specs.statement.Tree.{no_catch, and_catch}
@@ -7,7 +7,7 @@ use Rattle.php_flat.specs.Statements.{is_flat_catch}
 use Rattle.php_grammar.specs.statement.Forms.{past_block}
 use Rattle.php_parse_simple.specs.Parts.{catch_parts}
 use Rattle.php_parse_simple.proofs.Fails.{later}
-use Rattle.php_parse_simple.proofs.Flats.{all_with}
+use Rattle.php_flat.proofs.Lists.{all_with}
 use Rattle.php_parse_simple.proofs.Moves.{leads}
 use Rattle.php_parse_statement.proofs.Guards.{catches_more, no_end}
 use Rattle.php_parse_statement.proofs.parser.Parser.catches.Goals as goal

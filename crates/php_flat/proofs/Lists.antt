@@ -8,12 +8,17 @@ use Rattle.php_ast.specs.statement.View.{sequence_from, sequence}
 use Rattle.php_ast.specs.statement.Placed.{size_separated, size_separator, noted_separated}
 use Rattle.php_ast.specs.declaration.Placed.{size_joined, noted_joined}
 
+-- ---- what holds of all
+
 all_more : {A : Type 0} (p : A → Bool) (xs : List A) (x : A) → list_all p xs ≡ true → p x ≡ true → list_all p (xs ++ x ∷ []) ≡ true
 all_more p [] x all one = ap (λ b. b && true) one
 all_more p (y ∷ xs) x all one = both (first_of (p y) (list_all p xs) all) (all_more p xs x (second_of (p y) (list_all p xs) all) one)
 
+-- one more element behind a list
 pub all_with : {A : Type 0} (p : A → Bool) (xs new : List A) (x : A) → new ≡ xs ++ x ∷ [] → list_all p xs ≡ true → p x ≡ true → list_all p new ≡ true
 all_with p xs new x grown all one = ap (list_all p) grown ∙ all_more p xs x all one
+
+-- ---- as a sequence of trees
 
 push_from : {A : Type 0} (before : Sequence A) (xs : List A) (x : A) → sequence_from before (xs ++ x ∷ []) ≡ then_also (sequence_from before xs) x
 push_from before [] x = refl
@@ -23,8 +28,8 @@ map_push : {A B : Type 0} (f : A → B) (xs : List A) (x : A) → map f (xs ++ x
 map_push f [] x = refl
 map_push f (y ∷ xs) x = ap (λ ys. f y ∷ ys) (map_push f xs x)
 
-pushed : {A B : Type 0} (f : A → B) (xs new : List A) (x : A) → new ≡ xs ++ x ∷ [] → sequence f new ≡ then_also (sequence f xs) (f x)
-pushed f xs new x is = ap (sequence f) is ∙ ap (sequence_from empty) (map_push f xs x) ∙ push_from empty (map f xs) (f x)
+pub pushed : {A B : Type 0} (f : A → B) (xs new : List A) (x : A) → new ≡ xs ++ x ∷ [] → sequence f new ≡ then_also (sequence f xs) (f x)
+pushed f xs new x grown = ap (sequence f) grown ∙ ap (sequence_from empty) (map_push f xs x) ∙ push_from empty (map f xs) (f x)
 
 -- between commas
 pub separated_more : {A B C : Type 0} (f : C → B) (each : A → ℕ) (note : ℕ → A → B) (at place : ℕ) (ys : Sequence A) (y : A) (xs new : List C) (x : C) → new ≡ xs ++ x ∷ []
