@@ -6,6 +6,7 @@ mod changing;
 mod copying;
 mod handles;
 mod memory;
+mod memory_impl;
 mod moves;
 mod names;
 mod objects;
