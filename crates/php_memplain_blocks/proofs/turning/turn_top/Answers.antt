@@ -3,8 +3,8 @@ use Rattle.std.specs.Prelude.{reverse}
 use Rattle.php_memdef.specs.Contents as model
 use Rattle.php_memplain_cells.specs.declared.content.Item.{Item}
 use Rattle.php_memplain_cells.specs.Seen.{item_seen, scope_seen}
-use Rattle.php_memplain.proofs.TurnLemmas.{whole_slice, as_many, turned_is}
-use Rattle.php_memplain.proofs.turning.turn_top.Goals as goal
+use Rattle.php_memplain_blocks.proofs.TurnLemmas.{whole_slice, as_many, turned_is}
+use Rattle.php_memplain_blocks.proofs.turning.turn_top.Goals as goal
 
 pub returns : goal.returns
 returns c =

@@ -3,8 +3,8 @@ use Rattle.std.specs.Prelude.{Option}
 use Rattle.php_memdef.specs.Contents as model
 use Rattle.php_memdef.specs.Contents.{link}
 use Rattle.php_memplain_cells.specs.Seen.{variable_seen, scope_seen}
-use Rattle.php_memplain.specs.Variables.{forget_scope}
-use Rattle.php_memplain.proofs.names.forget_variable.Goals as goal
+use Rattle.php_memplain_blocks.specs.Variables.{forget_scope}
+use Rattle.php_memplain_blocks.proofs.names.forget_variable.Goals as goal
 
 pub remove-variable-requires : goal.remove-variable-requires
 remove-variable-requires c = let ok = c.args.block.now.variables.ok in omega (arith, c.in-Some.ensures.some.within)

@@ -6,8 +6,8 @@ use Rattle.php_memdef.specs.Contents.{Variable, Scope, Mem, scope_of}
 use Rattle.php_memdef.specs.Holders.{times, stores_of_variables, stores_of_scope, handles_of_scope}
 use Rattle.php_memdef.specs.Places.{with_scope}
 use Rattle.php_memdef.specs.Writes.{shed_first}
-use Rattle.php_memplain.specs.Variables.{shed_scope, has_variable}
-use Rattle.php_memplain.proofs.MoveLemmas.{gone_is, gone_names, gone_handles, scope_same}
+use Rattle.php_memplain_blocks.specs.Variables.{shed_scope, has_variable}
+use Rattle.php_memplain_blocks.proofs.MoveLemmas.{gone_is, gone_names, gone_handles, scope_same}
 
 module _ (m : Mem) (b : ℕ) (f : Scope) (there : numbered m.blocks b ≡ Some f) where
   pub shed_is : (vs : List Variable) → (scope_of m b).variables ≡ vs → shed_first vs m b ≡ (with_scope m b (shed_scope vs (scope_of m b)), has_variable vs)

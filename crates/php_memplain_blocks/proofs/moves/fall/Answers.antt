@@ -2,8 +2,8 @@ use Rattle.std.proofs.Common.{◌++◌, arith}
 use Rattle.php_memdef.specs.Contents.{Scope}
 use Rattle.php_memdef.specs.Temporaries.{fallen}
 use Rattle.php_memplain_cells.specs.Seen.{item_seen}
-use Rattle.php_memplain.proofs.MoveLemmas.{scope_changed, waiting_room_there}
-use Rattle.php_memplain.proofs.moves.fall.Goals as goal
+use Rattle.php_memplain_blocks.proofs.MoveLemmas.{scope_changed, waiting_room_there}
+use Rattle.php_memplain_blocks.proofs.moves.fall.Goals as goal
 
 pub fall_last-requires : goal.fall_last-requires
 fall_last-requires c =

@@ -3,8 +3,8 @@ ghost use Rattle.std.specs.Prelude.{◌≡◌, ◌+◌, ◌<◌, ◌++◌, [], �
 ghost use Rattle.php_memdef.specs.Contents as model;
 ghost use Rattle.php_memdef.specs.Temporaries.{rest_of, top_of, fallen};
 ghost use Rattle.php_memplain_cells.specs.Seen.{item_seen, scope_seen, block_falling};
-ghost use Rattle.php_memplain.specs.Rooms.{HasWaitingRoom};
-ghost use Rattle.php_memplain.specs.Variables.{shed_scope, has_variable};
+ghost use Rattle.php_memplain_blocks.specs.Rooms.{HasWaitingRoom};
+ghost use Rattle.php_memplain_blocks.specs.Variables.{shed_scope, has_variable};
 
 use php_base::NoMemory;
 use php_chain::Chain;

@@ -2,8 +2,8 @@ use Rattle.std.proofs.Common.{length, sym, ◌∙◌, ap, arith}
 use Rattle.php_memdef.specs.Contents.{Scope}
 use Rattle.php_memdef.specs.Temporaries.{rest_of, top_of}
 use Rattle.php_memplain_cells.proofs.MemoryLemmas.{scope_there}
-use Rattle.php_memplain.proofs.MoveLemmas.{scope_changed}
-use Rattle.php_memplain.proofs.moves.pop.Goals as goal
+use Rattle.php_memplain_blocks.proofs.MoveLemmas.{scope_changed}
+use Rattle.php_memplain_blocks.proofs.moves.pop.Goals as goal
 
 pub unreachable-requires : goal.unreachable-requires
 unreachable-requires c =

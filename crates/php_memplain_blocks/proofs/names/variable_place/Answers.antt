@@ -1,6 +1,6 @@
 use Rattle.std.proofs.Common.{arith}
-use Rattle.php_memplain.proofs.ForgetLemmas.{passed_none, passed_on, stands, not_there}
-use Rattle.php_memplain.proofs.names.variable_place.Goals as goal
+use Rattle.php_memplain_blocks.proofs.ForgetLemmas.{passed_none, passed_on, stands, not_there}
+use Rattle.php_memplain_blocks.proofs.names.variable_place.Goals as goal
 
 pub loop-at-init : goal.loop-at-init
 loop-at-init c = passed_none c.args.name c.args.variables.now.items

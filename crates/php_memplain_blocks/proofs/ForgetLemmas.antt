@@ -11,8 +11,8 @@ use Rattle.php_memdef.specs.Writes.{without_variable, variable_removed}
 use Rattle.php_memdef_laws.proofs.Held.Removals.{variable_gone}
 use Rattle.php_memplain_cells.specs.declared.block.Variable.{Variable}
 use Rattle.php_memplain_cells.specs.Seen.{variable_seen}
-use Rattle.php_memplain.specs.Variables.{forget_scope, StandsAt}
-use Rattle.php_memplain.proofs.MoveLemmas.{gone_is, gone_names, gone_handles, scope_same}
+use Rattle.php_memplain_blocks.specs.Variables.{forget_scope, StandsAt}
+use Rattle.php_memplain_blocks.proofs.MoveLemmas.{gone_is, gone_names, gone_handles, scope_same}
 
 next_of : (xs : List Variable) (at : ℕ) (x : Variable) → at < length xs → x ≡ slice_index_or xs at x → drop at xs ≡ x ∷ drop (suc at) xs
 next_of [] at x h e = absurd (omega (arith, h))

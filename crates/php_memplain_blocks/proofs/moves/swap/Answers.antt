@@ -3,8 +3,8 @@ use Rattle.php_memdef.specs.Contents.{Scope}
 use Rattle.php_memdef.specs.Temporaries.{rest_of, top_of}
 use Rattle.php_memplain_cells.specs.Seen.{item_seen}
 use Rattle.php_memplain_cells.proofs.MemoryLemmas.{scope_there}
-use Rattle.php_memplain.proofs.MoveLemmas.{scope_changed, temps_length}
-use Rattle.php_memplain.proofs.moves.swap.Goals as goal
+use Rattle.php_memplain_blocks.proofs.MoveLemmas.{scope_changed, temps_length}
+use Rattle.php_memplain_blocks.proofs.moves.swap.Goals as goal
 
 pub swap_top-requires : goal.swap_top-requires
 swap_top-requires c = omega (arith, c.requires.some, temps_length c.args.cells.now c.args.block c.index_mut.result.now c.index_mut.ensures.value)
