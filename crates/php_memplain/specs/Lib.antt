@@ -1,4 +1,2 @@
-pub mod Rooms
-pub mod Variables
 pub mod Changes
 pub mod Means

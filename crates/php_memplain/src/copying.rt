@@ -11,9 +11,9 @@ ghost use Rattle.php_memplain_cells.specs.Memory.{memory_seen};
 ghost use Rattle.php_memplain.specs.Means.{Means, made_of};
 
 use crate::memory::MemPlain;
-use crate::moves;
 use php_base::NoMemory;
 use php_memdef::{Block, Place, Read};
+use php_memplain_blocks as moves;
 use php_memplain_cells::{Cells, Item};
 use php_memplain_content::copy_content;
 use php_memplain_places::{Spot, find, temp_at};

@@ -6,8 +6,8 @@ ghost use Rattle.php_memdef.specs.Meanings.{SomeMeant, Does, Answers, MakesNone,
 ghost use Rattle.php_memplain.specs.Means.{Means, made_of};
 
 use crate::memory::MemPlain;
-use crate::moves;
 use php_memdef::{Block, NoObject, Obj};
+use php_memplain_blocks as moves;
 use php_memplain_cells::{Content, Item};
 use php_memplain_objects::{clone_top, hold, make_object};
 

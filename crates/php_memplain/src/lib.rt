@@ -1,12 +1,11 @@
 // A memory that keeps each array by itself and copies at once.
 #![tactic(auto)]
 
-mod blocks;
 mod changing;
 mod copying;
 mod handles;
 mod memory;
-mod moves;
+mod memory_impl;
 mod names;
 mod objects;
 mod reading;

@@ -10,12 +10,12 @@ ghost use Rattle.php_memdef.specs.Temporaries.{content_of_scalar};
 ghost use Rattle.php_memplain_cells.specs.Seen.{content_seen};
 ghost use Rattle.php_memplain.specs.Means.{Means, made_of};
 
-use crate::blocks::{new_block, reserve_room, shed_variable};
-use crate::moves;
 use php_array::Entries;
 use php_base::{Ledger, NoMemory};
 use php_chain::Link;
 use php_memdef::{Block, Fallen};
+use php_memplain_blocks as moves;
+use php_memplain_blocks::{new_block, reserve_room, shed_variable};
 use php_memplain_cells::{Cells, Content, Item};
 use php_value::Scalar;
 use slab::Slab;

@@ -1,5 +1,5 @@
 -- A text that grows at a place, against the assignment of both texts.
-use Rattle.std.proofs.Common.{◌≡◌, ◌≢◌, ℕ, zero, suc, ◌+◌, ◌-◌, ◌<◌, List, [], ◌∷◌, ◌++◌, length, refl, sym, ◌∙◌, ap, subst, arith, inl, inr}
+use Rattle.std.proofs.Common.{◌≡◌, ◌≢◌, ℕ, zero, suc, ◌<◌, List, [], ◌∷◌, ◌++◌, refl, sym, ◌∙◌, ap, subst, arith, inl, inr}
 use Rattle.std.specs.Prelude.{Option, Some, None, unwrap_or}
 use Rattle.std.proofs.lemmas.Bool.Decides.{eqb_tells}
 use Rattle.php_memdef.specs.declared.place.Base.{Base}
@@ -9,12 +9,12 @@ use Rattle.php_entries.specs.Listing.{Listing}
 use Rattle.php_memdef.specs.declared.place.Step.{Step}
 use Rattle.php_memdef.specs.Numbered.{Numbered, numbered, with_numbered}
 use Rattle.php_memdef.specs.Contents.{Content, null, truth, int, text, array, object, Item, value, link, Scope, Mem, no_scope, content_of, scope_of, object_of}
-use Rattle.php_memdef.specs.Holders.{times, stores_of_content, stores_of_item, handles_of_content, holders, object_holders}
-use Rattle.php_memdef.specs.Places.{Spot, stored, standing, nth_item, with_nth_item, content_if, content_at, with_content, with_scope, variable_store, property_store, stored_if, temp_spot, base_spot, elements_of, step_store, step_store_if, next_spot, spot_along, find_place, Walk, reached, elements_to_write, element_to_write, step_in_elements, walk_step, walk_along, variable_to_write, property_to_write, static_to_write, temp_to_write, base_to_write, walk}
-use Rattle.php_memdef.specs.Temporaries.{rest_of, top_of, top, with_top, popped, let_fall, with_falling}
+use Rattle.php_memdef.specs.Holders.{times, stores_of_content, stores_of_item, handles_of_content}
+use Rattle.php_memdef.specs.Places.{Spot, stored, standing, nth_item, with_nth_item, content_if, content_at, with_content, with_scope, variable_store, property_store, stored_if, temp_spot, base_spot, elements_of, step_store, step_store_if, next_spot, spot_along, find_place, reached, elements_to_write, element_to_write, step_in_elements, walk_step, walk_along, variable_to_write, property_to_write, static_to_write, temp_to_write, base_to_write, walk}
+use Rattle.php_memdef.specs.Temporaries.{rest_of, top_of, top, with_top, popped, let_fall}
 use Rattle.php_memdef.specs.Writes.{text_found, text_of_item, assigned, moved_in, assign, append}
 use Rattle.php_memdef.specs.Views.{content_if_found, found}
-use Rattle.php_memdef.specs.Conditions.{IsBlock, IsBelowTop, CanAppend}
+use Rattle.php_memdef.specs.Conditions.{IsBelowTop, CanAppend}
 use Rattle.php_memdef_laws.proofs.NumberedLemmas.{numbered-with_same, numbered-with_other}
 use Rattle.php_memdef_laws.proofs.AppendLemmas.{first_on_top}
 use Rattle.php_memdef_laws.proofs.Held.Parts.{handles_of_item, holders-popped, handles-popped}
@@ -26,8 +26,9 @@ use Rattle.php_memplain_cells.proofs.FallingLemmas.{scope_again, scope_twice, fa
 use Rattle.php_memplain_cells.proofs.MemoryLemmas.{counted_by}
 use Rattle.php_memplain_changes.specs.Standing.{HasContent}
 use Rattle.php_memplain_changes.specs.Taken.{Becomes}
+use Rattle.php_memplain_changes.specs.Joined.{IsBelowTopOf, joined_at}
 use Rattle.php_memplain_changes.proofs.SwapLemmas.{none_some, same_some}
-use Rattle.php_memplain_changes.proofs.TakeLemmas.{real_of}
+use Rattle.php_memplain_changes.proofs.TakeLemmas.{real_of, put_same, changed_seen}
 
 scope_on_top : (m : Mem) (b : ℕ) (j : Item) → scope_of (with_top m b j) b ≡ record (scope_of m b) { temps = j ∷ rest_of (scope_of m b).temps }
 scope_on_top m b j = scope_again m b (record (scope_of m b) { temps = j ∷ rest_of (scope_of m b).temps })
@@ -138,35 +139,31 @@ module _ (m : Mem) (b : ℕ) (j : Item) where
 
 -- the spot isn't the top temporary of the block
 
-abbrev pub IsSpotBelow : ℕ → Spot → Type 0
-IsSpotBelow b (stored s) = Unit {0}
-IsSpotBelow b (standing c k) = c ≡ b → 0 < k
-
-stored_below : (b : ℕ) (o : Option ℕ) (spot : Spot) → stored_if o ≡ Some spot → IsSpotBelow b spot
+stored_below : (b : ℕ) (o : Option ℕ) (spot : Spot) → stored_if o ≡ Some spot → IsBelowTopOf b spot
 stored_below b None spot e = absurd (none_some e)
-stored_below b (Some s) spot e = subst (IsSpotBelow b) (same_some e) tt
+stored_below b (Some s) spot e = subst (IsBelowTopOf b) (same_some e) tt
 
-temp_below : (b c k : ℕ) (i : Option Item) → (c ≡ b → 0 < k) → (spot : Spot) → temp_spot c k i ≡ Some spot → IsSpotBelow b spot
+temp_below : (b c k : ℕ) (i : Option Item) → (c ≡ b → 0 < k) → (spot : Spot) → temp_spot c k i ≡ Some spot → IsBelowTopOf b spot
 temp_below b c k None h spot e = absurd (none_some e)
-temp_below b c k (Some (value d)) h spot e = subst (IsSpotBelow b) (same_some e) h
-temp_below b c k (Some (link s)) h spot e = subst (IsSpotBelow b) (same_some e) tt
+temp_below b c k (Some (value d)) h spot e = subst (IsBelowTopOf b) (same_some e) h
+temp_below b c k (Some (link s)) h spot e = subst (IsBelowTopOf b) (same_some e) tt
 
 module _ (m : Mem) (b : ℕ) where
-  base_below : (base : Base) → IsBelowTop b base → (spot : Spot) → base_spot m base ≡ Some spot → IsSpotBelow b spot
+  base_below : (base : Base) → IsBelowTop b base → (spot : Spot) → base_spot m base ≡ Some spot → IsBelowTopOf b spot
   base_below (Var c n) h spot e = stored_below b (variable_store (scope_of m c.0).variables n.0) spot e
   base_below (OfObject k p) h spot e = stored_below b (property_store (object_of m k.0).properties p) spot e
   base_below (Static i) h spot e = stored_below b (numbered m.statics i.0) spot e
   base_below (Temp c n) h spot e = temp_below b c.0 n (nth_item (scope_of m c.0).temps n) h spot e
 
-  next_below : (from : Option Spot) (step : Step) (spot : Spot) → next_spot m from step ≡ Some spot → IsSpotBelow b spot
+  next_below : (from : Option Spot) (step : Step) (spot : Spot) → next_spot m from step ≡ Some spot → IsBelowTopOf b spot
   next_below None step spot e = absurd (none_some e)
   next_below (Some from) step spot e = stored_below b (step_store_if (elements_of (content_at m from)) step) spot e
 
-  along_below : (from : Option Spot) → ((spot : Spot) → from ≡ Some spot → IsSpotBelow b spot) → (path : List Step) (spot : Spot) → spot_along m from path ≡ Some spot → IsSpotBelow b spot
+  along_below : (from : Option Spot) → ((spot : Spot) → from ≡ Some spot → IsBelowTopOf b spot) → (path : List Step) (spot : Spot) → spot_along m from path ≡ Some spot → IsBelowTopOf b spot
   along_below from there [] spot e = there spot e
   along_below from there (step ∷ path) spot e = along_below (next_spot m from step) (next_below from step) path spot e
 
-  pub found_below : (p : Place) → IsBelowTop b p.base → (spot : Spot) → find_place m p ≡ Some spot → IsSpotBelow b spot
+  pub found_below : (p : Place) → IsBelowTop b p.base → (spot : Spot) → find_place m p ≡ Some spot → IsBelowTopOf b spot
   unfolding find_place
   found_below p h spot e = along_below (base_spot m p.base) (base_below p.base h) p.path spot e
 
@@ -217,7 +214,7 @@ module _ (m : Mem) (b : ℕ) (c : Content) where
       ∙ ap (λ bs. record m { blocks = bs }) (with_either m.blocks b d (Some g) (Some h) ne)
       ∙ sym (ap (λ (x : Scope). with_scope (with_scope m d h) b (record x { temps = i ∷ rest_of x.temps })) (other_scope m d b (λ e. ne (sym e)) h))
 
-  put_over : (i : Item) (spot : Spot) → IsSpotBelow b spot → with_content (with_top m b i) spot c ≡ with_top (with_content m spot c) b i
+  put_over : (i : Item) (spot : Spot) → IsBelowTopOf b spot → with_content (with_top m b i) spot c ≡ with_top (with_content m spot c) b i
   put_over i (stored s) h = refl
   put_over i (standing d k) h = elim (eqb_tells d b) [
     | inl e ↦
@@ -227,7 +224,7 @@ module _ (m : Mem) (b : ℕ) (c : Content) where
     | inr e ↦ over_there i d k e.1
   ]
 
-  top_kept : (spot : Spot) → IsSpotBelow b spot → top (with_content m spot c) b ≡ top m b
+  top_kept : (spot : Spot) → IsBelowTopOf b spot → top (with_content m spot c) b ≡ top m b
   top_kept (stored s) h = refl
   top_kept (standing d k) h = elim (eqb_tells d b) [
     | inl e ↦
@@ -237,7 +234,7 @@ module _ (m : Mem) (b : ℕ) (c : Content) where
     | inr e ↦ ap (λ (x : Scope). top_of x.temps) (other_scope m d b (λ g. e.1 (sym g)) (record (scope_of m d) { temps = with_nth_item (scope_of m d).temps k (value c) }))
   ]
 
-content_kept : (m : Mem) (b : ℕ) (i : Item) (spot : Spot) → IsSpotBelow b spot → content_at (with_top m b i) spot ≡ content_at m spot
+content_kept : (m : Mem) (b : ℕ) (i : Item) (spot : Spot) → IsBelowTopOf b spot → content_at (with_top m b i) spot ≡ content_at m spot
 content_kept m b i (stored s) h = refl
 content_kept m b i (standing d k) h = ap content_if (temp_kept m b i d k h)
 
@@ -275,7 +272,7 @@ module _ (m : Mem) (b : ℕ) (p : Place) (can : CanAppend b p m) (spot : Spot) (
   unfolding find_place
   walks i = walk_found (with_top m b i) p.base p.path spot (ap (λ o. spot_along (with_top m b i) o p.path) (base_same m b i p.base can.below_top) ∙ place_same m b i p.base p.path can.below_top ∙ e)
 
-  below : IsSpotBelow b spot
+  below : IsBelowTopOf b spot
   below = found_below m b p can.below_top spot e
 
   assigned_is : (c : Content) → (assign (with_top m b (value c)) b p).0 ≡ popped (with_content m spot c) b
@@ -314,5 +311,47 @@ appended s t b p can spot e there counted bytes is seen stores objects =
           omega (arith, same, counted.objects h, one, two, handles-with_content h m spot (real_of m spot there) (text bytes), handles-popped n h b)));
     }
 
-pub bytes_from : {t x y u v : List ℕ} → t ≡ x ++ y → x ≡ u → y ≡ v → t ≡ u ++ v
-bytes_from {t} {x} {y} {u} {v} e f g = e ∙ ap (λ zs. zs ++ y) f ∙ ap (λ zs. u ++ zs) g
+-- what is on top stays where another content is put below it
+
+nth_below : (is : List Item) (k : ℕ) (j : Item) → 0 < k → nth_item (with_nth_item is k j) 0 ≡ nth_item is 0
+nth_below is zero j h = absurd (omega (arith, h))
+nth_below [] (suc k) j h = refl
+nth_below (x ∷ is) (suc k) j h = refl
+
+pub first_kept : (m : Mem) (b : ℕ) (c : Content) (spot : Spot) → IsBelowTopOf b spot → content_at (with_content m spot c) (standing b 0) ≡ content_at m (standing b 0)
+first_kept m b c (stored s) h = refl
+first_kept m b c (standing d k) h = elim (eqb_tells d b) [
+  | inl e ↦
+      ap (λ x. content_at (with_content m (standing x k) c) (standing b 0)) e.1
+      ∙ ap (λ (x : Scope). content_if (nth_item x.temps 0)) (scope_again m b (record (scope_of m b) { temps = with_nth_item (scope_of m b).temps k (value c) }))
+      ∙ ap content_if (nth_below (scope_of m b).temps k (value c) (h e.1))
+  | inr e ↦ ap (λ (x : Scope). content_if (nth_item x.temps 0)) (other_scope m d b (λ g. e.1 (sym g)) (record (scope_of m d) { temps = with_nth_item (scope_of m d).temps k (value c) }))
+]
+
+-- the text is taken out, extended and put back
+
+module _ (s mid now : Cells) (b : ℕ) (spot : Spot) (there : HasContent (memory_seen s) spot) (c d : Content) (is : c ≡ content_at (memory_seen s) spot) (out : memory_seen mid ≡ with_content (memory_seen s) spot null) (back : memory_seen now ≡ with_content (memory_seen mid) spot d) where
+  pub longer_seen : IsBelowTopOf b spot → (behind : List ℕ) → behind ≡ text_found (Some (content_at (memory_seen mid) (standing b 0))) → d ≡ text (text_found (Some c) ++ behind) → memory_seen now ≡ with_content (memory_seen s) spot (text (joined_at (memory_seen s) b spot))
+  longer_seen below behind read grown =
+      let m = memory_seen s in
+      let top : content_at (memory_seen mid) (standing b 0) ≡ content_at m (standing b 0) = ap (λ x. content_at x (standing b 0)) out ∙ first_kept m b null spot below in
+      changed_seen s mid now spot there c d is out back
+      ∙ ap (with_content m spot) (
+      grown
+      ∙ ap (λ x. text (text_found (Some x) ++ behind)) is
+      ∙ ap (λ xs. text (text_found (Some (content_at m spot)) ++ xs)) (read ∙ ap (λ x. text_found (Some x)) top))
+
+  pub kept_seen : d ≡ c → memory_seen now ≡ memory_seen s
+  kept_seen same = changed_seen s mid now spot there c d is out back ∙ put_same (memory_seen s) spot there d (same ∙ is)
+
+-- a memory that looks as before, with the counts of before
+pub as_before : (s t : Cells) → IsCounted s → memory_seen t ≡ memory_seen s → ((k : ℕ) → count_of_store t.stores k ≡ count_of_store s.stores k) → t.objects ≡ s.objects → Becomes t (memory_seen s)
+as_before s t counted seen stores objects = record {
+  seen = seen;
+  counted =
+      counted_by t (memory_seen s) [] [] seen
+      (λ k. omega (arith, stores k, counted.stores k))
+      (λ h. (
+      let same : count_of_object t.objects.items h ≡ count_of_object s.objects.items h = ap (λ x. count_of_object x.items h) objects in
+      omega (arith, same, counted.objects h)));
+}

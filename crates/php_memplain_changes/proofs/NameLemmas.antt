@@ -1,5 +1,5 @@
 -- The variable or the property of a name is taken out.
-use Rattle.std.proofs.Common.{◌≡◌, ◌<◌, ◌≤◌, ◌+◌, ℕ, zero, suc, List, [], ◌∷◌, ◌++◌, length, map, take, drop, refl, sym, ◌∙◌, ap, subst, arith, cond, add-one}
+use Rattle.std.proofs.Common.{◌≡◌, ◌<◌, ◌≤◌, ◌+◌, ℕ, zero, suc, List, [], ◌∷◌, ◌++◌, length, map, take, drop, refl, sym, ◌∙◌, ap, arith, cond, add-one}
 use Rattle.std.specs.Prelude.{Bool, true, false, nat_eq, Option, Some, None, slice_index_or, IsSome, unwrap_or, option_map}
 use Rattle.std.proofs.lemmas.Bool.{false≢true}
 use Rattle.slab.specs.Slab.{get, with_value}
@@ -19,7 +19,7 @@ use Rattle.php_memplain_cells.specs.Seen.{variable_seen, property_seen, scope_se
 use Rattle.php_memplain_cells.specs.Counts.{AreSameHandles, count_of_store}
 use Rattle.php_memplain_cells.specs.Memory.{memory_seen, IsCounted}
 use Rattle.php_memplain_cells.proofs.SlotLemmas.{with_same}
-use Rattle.php_memplain_cells.proofs.MemoryLemmas.{scope_there, block_there, counted_by}
+use Rattle.php_memplain_cells.proofs.MemoryLemmas.{scope_there, counted_by}
 use Rattle.php_memplain_changes.specs.Taken.{in_hand, Takes}
 use Rattle.php_memplain_changes.specs.Named.{has_name, has_prop_name, NoneBefore, IsFirst, object_without}
 use Rattle.php_memplain_changes.proofs.SwapLemmas.{none_some, scope_changed, waiting_kept}

@@ -1,5 +1,5 @@
 -- What is removed at a place.
-use Rattle.std.proofs.Common.{◌≡◌, ◌<◌, ℕ, ◌+◌, List, [], ◌∷◌, ◌++◌, length, refl, sym, ◌∙◌, ap, subst, arith}
+use Rattle.std.proofs.Common.{◌≡◌, ◌<◌, ℕ, List, [], ◌∷◌, ◌++◌, length, refl, sym, ◌∙◌, ap, subst, arith}
 use Rattle.std.specs.Prelude.{Option, Some, None}
 use Rattle.slab.specs.Slab.{ContainsKey}
 use Rattle.php_memdef.specs.declared.place.Base.{Base}
@@ -9,14 +9,14 @@ use Rattle.php_memdef.specs.declared.place.Place.{Place}
 use Rattle.php_memdef.specs.Numbered.{numbered}
 use Rattle.php_memdef.specs.Contents.{Content, null, truth, int, text, array, object, Item, value, link, Mem, scope_of, object_of}
 use Rattle.php_memdef.specs.Holders.{stores_of_content}
-use Rattle.php_memdef.specs.Places.{Spot, stored, standing, nth_item, content_at, elements_of, variable_store, property_store, stored_if, temp_spot, base_spot, step_store_if, next_spot, spot_along, find_place}
+use Rattle.php_memdef.specs.Places.{Spot, nth_item, content_at, elements_of, variable_store, property_store, stored_if, temp_spot, base_spot, step_store_if, next_spot, spot_along, find_place}
 use Rattle.php_memdef.specs.Conditions.{IsBlock}
 use Rattle.php_memdef.specs.Writes.{steps_before, last_step, removed_at_spot, removed_at, unset, last_removed_at, unset_last, let_fall_if}
 use Rattle.php_memdef.specs.Sound.{Every, IsLive, IsClosed}
 use Rattle.php_memdef_laws.proofs.Closed.Parts.{IfFound, variable-found, property-found, step-found, nth_link-found, variables-closed, object-closed, temps-closed, content_at-closed}
 use Rattle.php_memplain_cells.specs.declared.cells.Cells.{Cells}
 use Rattle.php_memplain_cells.specs.Memory.{memory_seen, IsCounted}
-use Rattle.php_memplain_changes.specs.Standing.{HasContent, CanFallIn}
+use Rattle.php_memplain_changes.specs.Standing.{HasContent}
 use Rattle.php_memplain_changes.specs.Taken.{Takes, Becomes}
 use Rattle.php_memplain_changes.proofs.SwapLemmas.{none_some, same_some, block_live}
 

@@ -1,11 +1,10 @@
 -- A content is put at a spot.
-use Rattle.std.proofs.Common.{◌≡◌, ◌<◌, ◌≤◌, ◌-◌, ◌+◌, ℕ, zero, suc, List, [], ◌∷◌, ◌++◌, length, map, take, drop, refl, sym, ◌∙◌, ap, subst, arith, inl, inr}
-use Rattle.std.specs.Prelude.{Option, Some, None, option_map, unwrap_or, IsSome, is_some, reverse, slice_set, slice_index_or}
+use Rattle.std.proofs.Common.{◌≡◌, ◌<◌, ◌-◌, ◌+◌, ℕ, zero, suc, List, [], ◌∷◌, ◌++◌, length, map, take, refl, sym, ◌∙◌, ap, arith, inl, inr}
+use Rattle.std.specs.Prelude.{Option, Some, None, option_map, IsSome, is_some, reverse, slice_set, slice_index_or}
 use Rattle.std.proofs.lemmas.List.{map-append, reverse-append, length-reverse}
 use Rattle.std.proofs.lemmas.Bool.{cases_lt}
 use Rattle.std.proofs.lemmas.Bool.Decides.{eqb_tells}
 use Rattle.slab.specs.Slab.{Slab, get, with_value, ContainsKey}
-use Rattle.php_memdef.specs.Numbered.{numbered}
 use Rattle.php_memdef.specs.Contents.{Scope, Mem, scope_of}
 use Rattle.php_memdef.specs.Contents as model
 use Rattle.php_memdef.specs.Places.{nth_item, with_nth_item, with_scope}

@@ -1,25 +1,24 @@
 -- An element leaves the array at a spot.
-use Rattle.std.proofs.Common.{◌≡◌, ◌+◌, ℕ, zero, suc, List, [], ◌∷◌, ◌++◌, refl, sym, ◌∙◌, ap, subst, arith, cond}
-use Rattle.std.specs.Prelude.{Bool, true, false, Option, Some, None, unwrap_or, option_map, find, IsSome, is_some}
+use Rattle.std.proofs.Common.{◌≡◌, ◌+◌, ℕ, zero, suc, List, [], ◌∷◌, refl, sym, ◌∙◌, ap, subst, arith, cond}
+use Rattle.std.specs.Prelude.{Bool, true, false, Option, Some, None, unwrap_or, find, IsSome, is_some}
 use Rattle.std.proofs.lemmas.Bool.{false≢true}
 use Rattle.php_value.specs.declared.key.Key.{Key}
 use Rattle.php_entries.specs.Keys.{key_eq}
-use Rattle.php_entries.specs.Listing.{Entry, Listing, entry_at, last_of}
+use Rattle.php_entries.specs.Listing.{Entry, Listing, last_of}
 use Rattle.php_entries.specs.Changes.{without_key, without_last, popped as popped_entry, remove_key, pop_entry}
 use Rattle.php_memdef.specs.declared.place.Step.{Step}
 use Rattle.php_memdef.specs.declared.place.Step.TheVariants.{At, Push}
 use Rattle.php_memdef.specs.Numbered.{numbered}
-use Rattle.php_memdef.specs.Contents.{Content, null, truth, int, text, array, object, Item, value, link, Scope, Mem, no_scope, scope_of, content_of}
-use Rattle.php_memdef.specs.Holders.{times, stores_of_entries, stores_of_content, holders, handles_of_content, object_holders}
+use Rattle.php_memdef.specs.Contents.{Content, null, truth, int, text, array, object, Item, value, link, Scope, Mem, no_scope, scope_of}
+use Rattle.php_memdef.specs.Holders.{times, stores_of_entries, stores_of_content, handles_of_content}
 use Rattle.php_memdef.specs.Places.{Spot, stored, standing, nth_item, with_nth_item, content_if, content_at, with_content, with_scope, elements_of, entry_store, step_store, step_store_if}
 use Rattle.php_memdef.specs.Temporaries.{let_fall}
 use Rattle.php_memdef.specs.Writes.{let_fall_if, element_removed, removed_in_elements, last_removed, last_removed_in}
 use Rattle.php_memdef_laws.proofs.NumberedLemmas.{numbered-with_same}
-use Rattle.php_memdef_laws.proofs.Held.Parts.{holders-let_fall, handles-let_fall}
 use Rattle.php_memdef_laws.proofs.Held.Writes.{IsReal, holders-with_content, handles-with_content}
 use Rattle.php_memplain_cells.specs.declared.cells.Cells.{Cells}
 use Rattle.php_memplain_cells.specs.Counts.{count_of_store, count_of_object}
-use Rattle.php_memplain_cells.specs.Memory.{memory_seen, IsCounted, IsCountedWith}
+use Rattle.php_memplain_cells.specs.Memory.{memory_seen, IsCounted}
 use Rattle.php_memplain_cells.proofs.SlotLemmas.{with_same, with_twice}
 use Rattle.php_memplain_cells.proofs.FallingLemmas.{scope_again, scope_twice}
 use Rattle.php_memplain_cells.proofs.MemoryLemmas.{counted_by}

@@ -1,3 +1,4 @@
 pub mod Standing
 pub mod Taken
 pub mod Named
+pub mod Joined

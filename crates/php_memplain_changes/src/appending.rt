@@ -1,5 +1,5 @@
 // A text that grows where it stands.
-ghost use Rattle.std.specs.Prelude.{◌≡◌, ℕ, ◌++◌, Some, IfOk, OnOk, OnErr};
+ghost use Rattle.std.specs.Prelude.{◌≡◌, ℕ, ◌++◌, Some, OnOk, OnErr};
 ghost use Rattle.slab.specs.Slab.{ContainsKey};
 ghost use Rattle.php_memdef.specs.Conditions.{CanAppend};
 ghost use Rattle.php_memdef.specs.Contents.{text};
@@ -13,7 +13,8 @@ ghost use Rattle.php_memplain_cells.specs.Seen.{content_seen, scope_seen};
 ghost use Rattle.php_memplain_cells.specs.Counts.{count_of_store};
 ghost use Rattle.php_memplain_cells.specs.Memory.{memory_seen, IsCounted};
 ghost use Rattle.php_memplain_places.specs.Spots.{spot_seen};
-ghost use Rattle.php_memplain_changes.specs.Standing.{HasContent};
+ghost use Rattle.php_memplain_changes.specs.Standing.{HasContent, AreWaitingKept};
+ghost use Rattle.php_memplain_changes.specs.Joined.{IsText, IsBelowTopOf, joined_at};
 ghost use Rattle.php_memplain_changes.specs.Taken.{Becomes};
 
 use crate::swapping::swap_content;
@@ -21,7 +22,6 @@ use php_base::NoMemory;
 use php_memdef::Place;
 use php_memplain_cells::{Block, Cells, Content, Item};
 use php_memplain_places::{Spot, content_at, find};
-use php_value::Text;
 use std::alloc::Global;
 
 // The bytes of a text, none of anything else.
@@ -48,12 +48,39 @@ fn bytes_at(cells: &Cells, spot: Spot) -> &[u8]
     }
 }
 
-// A text with the bytes of one and then those of another.
-fn joined(alloc: Global, first: &[u8], second: &[u8]) -> Result<Text, NoMemory>
-    ensures { IfOk result (λ t. t ≡ first.now ++ second.now) }
+// Puts bytes behind a text, which grows in place where it has no other owner.
+fn extend_content(content: &mut Content, alloc: Global, more: &[u8]) -> Result<(), NoMemory>
+    requires { IsText (content_seen content.old) }
+    ensures longer { OnOk result (content_seen content.new ≡ text (text_found (Some (content_seen content.old)) ++ more.now)) }
+    ensures kept { OnErr result (content_seen content.new ≡ content_seen content.old) }
 {
-    let text = Text::from_bytes(alloc, first)?;
-    text.append(alloc, second)
+    match content {
+        Content::Str(text) => text.extend(alloc, more),
+        Content::Null
+        | Content::Bool(_)
+        | Content::Int(_)
+        | Content::Array(_, _)
+        | Content::Object(_) => unreachable!(),
+    }
+}
+
+// Puts the bytes of the text on top of a block behind the text at a spot. Want of memory changes nothing.
+fn extend_at(cells: &mut Cells, block: usize, spot: Spot) -> Result<(), NoMemory>
+    requires there { HasContent (memory_seen cells.old) (spot_seen spot) }
+    requires is_text { IsText (places.content_at (memory_seen cells.old) (spot_seen spot)) }
+    requires below { IsBelowTopOf block (spot_seen spot) }
+    ensures longer { OnOk result (memory_seen cells.new ≡ with_content (memory_seen cells.old) (spot_seen spot) (text (joined_at (memory_seen cells.old) block (spot_seen spot)))) }
+    ensures kept { OnErr result (memory_seen cells.new ≡ memory_seen cells.old) }
+    ensures holders { (k : ℕ) → count_of_store cells.new.stores k ≡ count_of_store cells.old.stores k }
+    ensures objects { cells.new.objects ≡ cells.old.objects }
+    ensures waiting { AreWaitingKept cells.old.blocks cells.new.blocks }
+    ensures ledger { cells.new.ledger ≡ cells.old.ledger }
+{
+    let mut content = swap_content(cells, spot, Content::Null);
+    let behind = bytes_at(cells, Spot::Standing(block, 0));
+    let answer = extend_content(&mut content, cells.alloc, behind);
+    let _null = swap_content(cells, spot, content);
+    answer
 }
 
 // Takes the top temporary off.
@@ -73,20 +100,8 @@ fn drop_top(cells: &mut Cells, block: usize)
     let _top = pop_temp(&mut cells.blocks[block]);
 }
 
-// Puts a text at a spot, and takes the top temporary off.
-fn put_text(cells: &mut Cells, block: usize, spot: Spot, bytes: Text)
-    requires block { ContainsKey cells.old.blocks block }
-    requires there { HasContent (memory_seen cells.old) (spot_seen spot) }
-    ensures seen { memory_seen cells.new ≡ popped (with_content (memory_seen cells.old) (spot_seen spot) (text bytes)) block }
-    ensures holders { (k : ℕ) → count_of_store cells.new.stores k ≡ count_of_store cells.old.stores k }
-    ensures objects { cells.new.objects ≡ cells.old.objects }
-    ensures ledger { cells.new.ledger ≡ cells.old.ledger }
-{
-    let _before = swap_content(cells, spot, Content::Str(bytes));
-    drop_top(cells, block);
-}
-
-/// Moves the text on top of a block behind the text at a place. Want of memory changes nothing.
+/// Moves the text on top of a block behind the text at a place, which grows in place where it has no other owner.
+/// Want of memory changes nothing.
 pub fn append(cells: &mut Cells, block: usize, to: &Place) -> Result<(), NoMemory>
     requires counted { IsCounted cells.old }
     requires closed { IsClosed (memory_seen cells.old) }
@@ -98,11 +113,9 @@ pub fn append(cells: &mut Cells, block: usize, to: &Place) -> Result<(), NoMemor
     let Some(spot) = find(cells, to) else {
         unreachable!();
     };
-    let before = bytes_at(cells, spot);
-    let behind = bytes_at(cells, Spot::Standing(block, 0));
-    match joined(cells.alloc, before, behind) {
-        Ok(text) => {
-            put_text(cells, block, spot, text);
+    match extend_at(cells, block, spot) {
+        Ok(()) => {
+            drop_top(cells, block);
             Ok(())
         }
         Err(_) => Err(NoMemory),

@@ -1,4 +1,4 @@
-use Rattle.std.proofs.Common.{◌≡◌, ℕ, [], sym, ◌∙◌, ap, subst}
+use Rattle.std.proofs.Common.{ℕ, [], sym, ◌∙◌, ap, subst}
 use Rattle.std.specs.Prelude.{Option}
 use Rattle.php_memdef.specs.Writes.{let_fall_if}
 use Rattle.php_memplain_cells.specs.Memory.{memory_seen, IsCountedWith}

@@ -1,4 +1,4 @@
-use Rattle.std.proofs.Common.{◌≡◌, ℕ, refl, sym, ◌∙◌, ap, subst}
+use Rattle.std.proofs.Common.{sym, ap, subst}
 use Rattle.php_memdef.specs.declared.place.Base.{Base}
 use Rattle.php_memdef.specs.Conditions.{IsBase}
 use Rattle.php_memdef.specs.Writes.{base_removed}

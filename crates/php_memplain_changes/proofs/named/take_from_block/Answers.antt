@@ -1,4 +1,4 @@
-use Rattle.std.proofs.Common.{◌≡◌, List, map, sym, ◌∙◌, ap, arith}
+use Rattle.std.proofs.Common.{List, map, sym, ◌∙◌, ap, arith}
 use Rattle.std.specs.Prelude.{Some}
 use Rattle.php_memdef.specs.Contents as model
 use Rattle.php_memplain_cells.specs.declared.block.Variable.{Variable}

@@ -1,5 +1,5 @@
-use Rattle.std.proofs.Common.{◌≡◌, ◌<◌, ◌+◌, ◌-◌, ℕ, List, length, refl, sym, ◌∙◌, ap, subst, arith}
-use Rattle.std.specs.Prelude.{Some, None, Option, Box, slice_set, unwrap_or}
+use Rattle.std.proofs.Common.{◌≡◌, ◌-◌, sym, ◌∙◌, ap, subst, arith}
+use Rattle.std.specs.Prelude.{Some, Box, slice_set}
 use Rattle.std.specs.declared.alloc.Global.{Global}
 use Rattle.php_memdef.specs.Contents as model
 use Rattle.php_memdef.specs.Places.{property_store}

@@ -1,4 +1,4 @@
-use Rattle.std.proofs.Common.{◌≡◌, sym, ◌∙◌, ap}
+use Rattle.std.proofs.Common.{ap}
 use Rattle.std.specs.Prelude.{is_some}
 use Rattle.php_memplain_cells.proofs.MemoryLemmas.{block_there}
 use Rattle.php_memplain_changes.proofs.NameLemmas.{variable_taken}

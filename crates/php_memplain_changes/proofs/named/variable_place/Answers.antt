@@ -1,4 +1,4 @@
-use Rattle.std.proofs.Common.{◌≡◌, sym, ◌∙◌, ap, subst, arith, add-one}
+use Rattle.std.proofs.Common.{sym, ◌∙◌, ap, subst, arith, add-one}
 use Rattle.php_memplain_changes.specs.Named.{has_name, NoneBefore}
 use Rattle.php_memplain_changes.proofs.NameLemmas.{none_yet, none_on, first_at, none_so_far}
 use Rattle.php_memplain_changes.proofs.named.variable_place.Goals as goal

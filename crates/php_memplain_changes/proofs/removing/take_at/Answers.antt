@@ -1,4 +1,4 @@
-use Rattle.std.proofs.Common.{◌≡◌, List, [], length, sym, ◌∙◌, ap, subst, arith}
+use Rattle.std.proofs.Common.{◌≡◌, List, length, subst, arith}
 use Rattle.php_memdef.specs.declared.place.Step.{Step}
 use Rattle.php_memdef.specs.Writes.{removed_at}
 use Rattle.php_memplain_cells.specs.Memory.{memory_seen}

@@ -1,5 +1,4 @@
-use Rattle.std.proofs.Common.{◌≡◌, ℕ, List, [], ◌∷◌, ◌++◌, sym, ◌∙◌, ap, subst, arith}
-use Rattle.std.specs.Prelude.{Option, None}
+use Rattle.std.proofs.Common.{sym, ◌∙◌, ap}
 use Rattle.php_memdef.specs.declared.place.Place.{Place}
 use Rattle.php_memplain_cells.specs.Memory.{memory_seen}
 use Rattle.php_memplain_places.specs.Spots.{spot_seen}

@@ -1,4 +1,4 @@
-use Rattle.std.proofs.Common.{◌≡◌, sym, ◌∙◌, ap, subst}
+use Rattle.std.proofs.Common.{sym, ap, subst}
 use Rattle.std.specs.Prelude.{Option}
 use Rattle.php_memdef.specs.Places.{Spot, find_place}
 use Rattle.php_memdef.specs.Writes.{last_removed_at}

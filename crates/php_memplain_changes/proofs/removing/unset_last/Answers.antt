@@ -1,6 +1,5 @@
-use Rattle.std.proofs.Common.{◌≡◌, [], sym, ◌∙◌, ap, subst}
+use Rattle.std.proofs.Common.{sym, subst}
 use Rattle.php_memdef.specs.Sound.{IsClosed}
-use Rattle.php_memplain_cells.specs.Memory.{memory_seen}
 use Rattle.php_memplain_changes.proofs.SwapLemmas.{block_live}
 use Rattle.php_memplain_changes.proofs.FallLemmas.{counted_same, block_stays, room_stays}
 use Rattle.php_memplain_changes.proofs.RemoveLemmas.{block_after, becomes_unset_last}

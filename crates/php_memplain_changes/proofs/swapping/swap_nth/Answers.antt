@@ -1,4 +1,4 @@
-use Rattle.std.proofs.Common.{◌≡◌, ◌<◌, ◌-◌, List, length, map, sym, ◌∙◌, ap, arith}
+use Rattle.std.proofs.Common.{◌-◌, length, map, sym, ◌∙◌, ap, arith}
 use Rattle.std.specs.Prelude.{Some, reverse}
 use Rattle.php_memdef.specs.Contents as model
 use Rattle.php_memdef.specs.Places.{with_nth_item}

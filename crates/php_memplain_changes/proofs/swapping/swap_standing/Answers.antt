@@ -1,4 +1,4 @@
-use Rattle.std.proofs.Common.{◌≡◌, sym, ◌∙◌, ap, subst}
+use Rattle.std.proofs.Common.{sym, ◌∙◌, ap, subst}
 use Rattle.php_memdef.specs.Contents.{Scope, value}
 use Rattle.php_memdef.specs.Places.{nth_item, with_nth_item, content_if}
 use Rattle.php_memplain_cells.specs.Seen.{content_seen}

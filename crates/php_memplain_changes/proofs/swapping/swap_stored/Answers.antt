@@ -1,4 +1,4 @@
-use Rattle.std.proofs.Common.{◌≡◌, sym, ◌∙◌, ap}
+use Rattle.std.proofs.Common.{sym, ◌∙◌, ap}
 use Rattle.std.specs.Prelude.{Some, option_map}
 use Rattle.php_memdef.specs.Numbered.{with_numbered}
 use Rattle.php_memplain_cells.specs.Seen.{store_seen, stores_seen}

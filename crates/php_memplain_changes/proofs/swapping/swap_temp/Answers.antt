@@ -1,4 +1,4 @@
-use Rattle.std.proofs.Common.{◌≡◌, ◌<◌, length, ap, arith}
+use Rattle.std.proofs.Common.{length, ap, arith}
 use Rattle.php_memplain_changes.proofs.SwapLemmas.{depth_within}
 use Rattle.php_memplain_changes.proofs.swapping.swap_temp.Goals as goal
 

@@ -1,7 +1,7 @@
 use Rattle.std.proofs.Common.{sym}
 use Rattle.std.specs.Prelude.{Some}
 use Rattle.php_memdef.specs.Operations as op
-use Rattle.php_memplain.proofs.MoveLemmas.{block_live}
+use Rattle.php_memplain_blocks.proofs.MoveLemmas.{block_live}
 use Rattle.php_memplain.proofs.MeansLemmas.{able, answers_alike}
 use Rattle.php_memplain.proofs.CopyLemmas.{whole_of, back_kept}
 use Rattle.php_memplain.proofs.memory.MemPlain.clone_object.Goals as goal

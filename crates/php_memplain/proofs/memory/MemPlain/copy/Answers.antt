@@ -9,7 +9,7 @@ use Rattle.php_memplain_cells.specs.Memory.{memory_seen}
 use Rattle.php_memplain_cells.specs.Seen.{content_seen}
 use Rattle.php_memplain_places.specs.Spots.{spot_seen}
 use Rattle.php_memplain_content.proofs.LiveLemmas.{found_there}
-use Rattle.php_memplain.proofs.MoveLemmas.{block_live, pushed_counted}
+use Rattle.php_memplain_blocks.proofs.MoveLemmas.{block_live, pushed_counted}
 use Rattle.php_memplain.proofs.MeansLemmas.{able, answers, answers_alike}
 use Rattle.php_memplain.proofs.CopyLemmas.{whole_of, copied_alike, copy_found, copy_absent, back_kept, block_made}
 use Rattle.php_memplain.proofs.memory.MemPlain.copy.Goals as goal

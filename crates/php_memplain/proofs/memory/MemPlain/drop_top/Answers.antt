@@ -7,7 +7,7 @@ use Rattle.php_memdef.specs.Operations as op
 use Rattle.php_memdef_laws.proofs.Held.Parts.{handles_of_item}
 use Rattle.php_memplain_cells.specs.Memory.{memory_seen, IsCountedWith}
 use Rattle.php_memplain_cells.specs.Seen.{item_seen}
-use Rattle.php_memplain.proofs.MoveLemmas.{block_live, popped_counted, fallen_counted, falling_room_popped}
+use Rattle.php_memplain_blocks.proofs.MoveLemmas.{block_live, popped_counted, fallen_counted, falling_room_popped}
 use Rattle.php_memplain.proofs.MeansLemmas.{able, does}
 use Rattle.php_memplain.proofs.memory.MemPlain.drop_top.Goals as goal
 

@@ -1,5 +1,5 @@
 use Rattle.php_memdef.specs.Operations as op
-use Rattle.php_memplain.proofs.MoveLemmas.{block_live}
+use Rattle.php_memplain_blocks.proofs.MoveLemmas.{block_live}
 use Rattle.php_memplain.proofs.MeansLemmas.{able, answers}
 use Rattle.php_memplain.proofs.memory.MemPlain.fall.Goals as goal
 

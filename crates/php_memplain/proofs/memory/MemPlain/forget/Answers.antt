@@ -7,10 +7,10 @@ use Rattle.php_memdef.specs.Operations as op
 use Rattle.php_memplain_cells.specs.Seen.{scope_seen}
 use Rattle.php_memplain_cells.specs.Memory.{memory_seen}
 use Rattle.php_memplain_cells.proofs.MemoryLemmas.{block_there}
-use Rattle.php_memplain.specs.Variables.{forget_scope}
-use Rattle.php_memplain.proofs.MoveLemmas.{block_live, waiting_room_there, scope_changed, rescoped_counted}
+use Rattle.php_memplain_blocks.specs.Variables.{forget_scope}
+use Rattle.php_memplain_blocks.proofs.MoveLemmas.{block_live, waiting_room_there, scope_changed, rescoped_counted}
 use Rattle.php_memplain.proofs.MeansLemmas.{able, does}
-use Rattle.php_memplain.proofs.ForgetLemmas.{forget_is, forget_names, forget_handles}
+use Rattle.php_memplain_blocks.proofs.ForgetLemmas.{forget_is, forget_names, forget_handles}
 use Rattle.php_memplain.proofs.memory.MemPlain.forget.Goals as goal
 
 pub index_mut-requires : goal.index_mut-requires

@@ -5,7 +5,7 @@ use Rattle.php_memdef.specs.Operations as op
 use Rattle.php_memplain_cells.specs.Seen.{scope_seen}
 use Rattle.php_memplain_cells.specs.Memory.{memory_seen}
 use Rattle.php_memplain_cells.proofs.SlotLemmas.{set_seen}
-use Rattle.php_memplain.proofs.MoveLemmas.{block_live, left_counted}
+use Rattle.php_memplain_blocks.proofs.MoveLemmas.{block_live, left_counted}
 use Rattle.php_memplain.proofs.MeansLemmas.{able, does}
 use Rattle.php_memplain.proofs.memory.MemPlain.leave.Goals as goal
 

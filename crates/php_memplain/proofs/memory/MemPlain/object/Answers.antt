@@ -6,7 +6,7 @@ use Rattle.php_memdef.specs.Temporaries.{pushed}
 use Rattle.php_memdef.specs.Operations as op
 use Rattle.php_memplain_cells.specs.Memory.{memory_seen}
 use Rattle.php_memplain_objects.proofs.MakeLemmas.{model_makes}
-use Rattle.php_memplain.proofs.MoveLemmas.{block_live, pushed_counted}
+use Rattle.php_memplain_blocks.proofs.MoveLemmas.{block_live, pushed_counted}
 use Rattle.php_memplain.proofs.MeansLemmas.{able, answers}
 use Rattle.php_memplain.proofs.CopyLemmas.{back_kept}
 use Rattle.php_memplain.proofs.memory.MemPlain.object.Goals as goal

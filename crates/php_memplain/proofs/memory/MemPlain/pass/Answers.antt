@@ -8,7 +8,7 @@ use Rattle.php_memdef_laws.proofs.Held.Parts.{handles_of_item}
 use Rattle.php_memdef_laws.proofs.Formed.Parts.{room_after_pop}
 use Rattle.php_memplain_cells.specs.Memory.{memory_seen, IsCountedWith}
 use Rattle.php_memplain_cells.specs.Seen.{item_seen}
-use Rattle.php_memplain.proofs.MoveLemmas.{block_live, pushed_counted, popped_counted, block_popped}
+use Rattle.php_memplain_blocks.proofs.MoveLemmas.{block_live, pushed_counted, popped_counted, block_popped}
 use Rattle.php_memplain.proofs.MeansLemmas.{able, does}
 use Rattle.php_memplain.proofs.memory.MemPlain.pass.Goals as goal
 

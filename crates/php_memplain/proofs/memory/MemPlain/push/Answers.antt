@@ -3,7 +3,7 @@ use Rattle.php_memdef.specs.Contents.{value}
 use Rattle.php_memdef.specs.Temporaries.{content_of_scalar, pushed, push}
 use Rattle.php_memdef.specs.Operations as op
 use Rattle.php_memplain_cells.specs.Memory.{memory_seen}
-use Rattle.php_memplain.proofs.MoveLemmas.{block_live, pushed_counted, scalar_stores, scalar_handles, still_counted}
+use Rattle.php_memplain_blocks.proofs.MoveLemmas.{block_live, pushed_counted, scalar_stores, scalar_handles, still_counted}
 use Rattle.php_memplain.proofs.MeansLemmas.{able, does}
 use Rattle.php_memplain.proofs.memory.MemPlain.push.Goals as goal
 

@@ -4,7 +4,7 @@ use Rattle.php_memdef.specs.Contents.{value, array}
 use Rattle.php_memdef.specs.Temporaries.{pushed, push_array}
 use Rattle.php_memdef.specs.Operations as op
 use Rattle.php_memplain_cells.specs.Memory.{memory_seen}
-use Rattle.php_memplain.proofs.MoveLemmas.{block_live, pushed_counted}
+use Rattle.php_memplain_blocks.proofs.MoveLemmas.{block_live, pushed_counted}
 use Rattle.php_memplain.proofs.MeansLemmas.{able, does}
 use Rattle.php_memplain.proofs.memory.MemPlain.push_array.Goals as goal
 

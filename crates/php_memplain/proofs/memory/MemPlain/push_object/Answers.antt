@@ -3,7 +3,7 @@ use Rattle.php_memdef.specs.Contents.{Mem, value, object}
 use Rattle.php_memdef.specs.Conditions.{IsBlock, HasRoom}
 use Rattle.php_memdef.specs.Temporaries.{pushed, push_object}
 use Rattle.php_memdef.specs.Operations as op
-use Rattle.php_memplain.proofs.MoveLemmas.{block_live, pushed_counted}
+use Rattle.php_memplain_blocks.proofs.MoveLemmas.{block_live, pushed_counted}
 use Rattle.php_memplain.proofs.MeansLemmas.{able, does}
 use Rattle.php_memplain.proofs.ChangeLemmas.{object_count}
 use Rattle.php_memplain.proofs.memory.MemPlain.push_object.Goals as goal

@@ -6,7 +6,7 @@ use Rattle.php_memdef.specs.Operations as op
 use Rattle.php_memplain_cells.specs.Seen.{scope_seen}
 use Rattle.php_memplain_cells.specs.Memory.{memory_seen}
 use Rattle.php_memplain_cells.proofs.MemoryLemmas.{block_there}
-use Rattle.php_memplain.proofs.MoveLemmas.{block_live, scope_changed, scope_same, rescoped_counted}
+use Rattle.php_memplain_blocks.proofs.MoveLemmas.{block_live, scope_changed, scope_same, rescoped_counted}
 use Rattle.php_memplain.proofs.MeansLemmas.{able, does, kept}
 use Rattle.php_memplain.proofs.memory.MemPlain.reserve.Goals as goal
 

@@ -6,7 +6,7 @@ use Rattle.php_memdef.specs.Operations as op
 use Rattle.php_memdef_laws.proofs.Closed.Parts.{nth_link-found, temps-closed}
 use Rattle.php_memplain_cells.specs.Memory.{memory_seen}
 use Rattle.php_memplain_cells.specs.Seen.{content_seen, item_seen}
-use Rattle.php_memplain.proofs.MoveLemmas.{block_live}
+use Rattle.php_memplain_blocks.proofs.MoveLemmas.{block_live}
 use Rattle.php_memplain.proofs.MeansLemmas.{able, meant_alike}
 use Rattle.php_memplain.proofs.CopyLemmas.{whole_of, link_is_top, falling_room_swapped, some_temp, settled_alike, settled_counted, back_kept, block_made}
 use Rattle.php_memplain.proofs.memory.MemPlain.settle.Goals as goal

@@ -6,10 +6,10 @@ use Rattle.php_memdef.specs.Operations as op
 use Rattle.php_memplain_cells.specs.Seen.{scope_seen}
 use Rattle.php_memplain_cells.specs.Memory.{memory_seen}
 use Rattle.php_memplain_cells.proofs.MemoryLemmas.{block_there, scope_there}
-use Rattle.php_memplain.specs.Variables.{shed_scope, has_variable}
-use Rattle.php_memplain.proofs.MoveLemmas.{block_live, waiting_room_there, scope_changed, rescoped_counted}
+use Rattle.php_memplain_blocks.specs.Variables.{shed_scope, has_variable}
+use Rattle.php_memplain_blocks.proofs.MoveLemmas.{block_live, waiting_room_there, scope_changed, rescoped_counted}
 use Rattle.php_memplain.proofs.MeansLemmas.{able, answers}
-use Rattle.php_memplain.proofs.ShedLemmas.{shed_is, shed_names, shed_handles}
+use Rattle.php_memplain_blocks.proofs.ShedLemmas.{shed_is, shed_names, shed_handles}
 use Rattle.php_memplain.proofs.memory.MemPlain.shed.Goals as goal
 
 pub index_mut-requires : goal.index_mut-requires

@@ -3,7 +3,7 @@ use Rattle.std.specs.Prelude.{vec_len}
 use Rattle.php_memdef_laws.proofs.Alike.Memories.{Alike-sym}
 use Rattle.php_memdef_laws.proofs.Alike.Views.{temps_count-alike, IsBlock-alike}
 use Rattle.php_memplain_cells.specs.Memory.{memory_seen}
-use Rattle.php_memplain.proofs.MoveLemmas.{block_live, temps_length}
+use Rattle.php_memplain_blocks.proofs.MoveLemmas.{block_live, temps_length}
 use Rattle.php_memplain.proofs.memory.MemPlain.temps.Goals as goal
 
 pub index-requires : goal.index-requires

@@ -3,9 +3,9 @@ use Rattle.slab.specs.Slab.{with_value}
 use Rattle.php_memdef.specs.Contents.{Scope}
 use Rattle.php_memdef.specs.Temporaries.{turned, turn}
 use Rattle.php_memdef.specs.Operations as op
-use Rattle.php_memplain.proofs.MoveLemmas.{block_live, scope_changed, temps_length}
+use Rattle.php_memplain_blocks.proofs.MoveLemmas.{block_live, scope_changed, temps_length}
 use Rattle.php_memplain.proofs.MeansLemmas.{able, does}
-use Rattle.php_memplain.proofs.TurnLemmas.{turned_counted}
+use Rattle.php_memplain_blocks.proofs.TurnLemmas.{turned_counted}
 use Rattle.php_memplain.proofs.memory.MemPlain.turn.Goals as goal
 
 pub index_mut-requires : goal.index_mut-requires

@@ -1,0 +1,4 @@
+pub mod MoveLemmas
+pub mod ShedLemmas
+pub mod ForgetLemmas
+pub mod TurnLemmas
