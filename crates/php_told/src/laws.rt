@@ -15,8 +15,8 @@ pub fn none_is_not_told_where_all_are_told()
     ensures only { (script : Script Note) → IsScriptTold script → first_not_told script ≡ None }
 {}
 
-/// In a script whose notes are those of its tokens, it is the one of them that begins with the least token: of all that stand in no other
-/// such form, and nothing inside a form begins before it.
+/// In a script whose notes are those of its tokens, the first form that isn't told begins with the least token of all such forms that
+/// stand in no other one.
 pub fn first_form_has_the_least_token()
     ensures { (tokens : List Token) (script : Script Note) → IsPlacedScript tokens script → IsLeast (first_not_told script) (starts script) }
 {}
