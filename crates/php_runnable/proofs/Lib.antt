@@ -11,4 +11,5 @@ pub mod Fits
 pub mod Unions
 pub mod Releases
 pub mod Never
+pub mod Arguments
 pub mod Starts

@@ -51,7 +51,7 @@ module _ (b room : ℕ) where
 
   -- ---- a variable is assigned
 
-  moved_falling : (i : Item) (m : Mem) (s : ℕ) → length (scope_of (moved_in i m b (stored s)) b).falling ≤ suc (length (scope_of m b).falling)
+  pub moved_falling : (i : Item) (m : Mem) (s : ℕ) → length (scope_of (moved_in i m b (stored s)) b).falling ≤ suc (length (scope_of m b).falling)
   moved_falling (value c) m s =
       let n = with_content m (stored s) c in
       omega (arith, falls_one b room (popped n b) (value (content_at m (stored s))), ap length (popped_falling b room n))

@@ -1,5 +1,5 @@
 // Why no run of a script is stuck. Each function says it in its contract, and its body is empty.
-ghost use Rattle.std.specs.Prelude.{ℕ, List, [], ◌≢◌};
+ghost use Rattle.std.specs.Prelude.{◌≡◌, ◌≢◌, ℕ, ◌+◌, ◌*◌, List, length};
 ghost use Rattle.php_machine.specs.Moves.{Stuck};
 ghost use Rattle.php_machine.specs.Machine.{runs};
 ghost use Rattle.php_ast.specs.declaration.Tree.{Script};
@@ -10,6 +10,7 @@ ghost use Rattle.php_actions.specs.Start.{first, script_frame};
 ghost use Rattle.php_meaning.specs.Facts.{facts_of};
 ghost use Rattle.php_meaning.specs.Meaning.{tree};
 ghost use Rattle.php_runnable.specs.Told.{IsScriptTold};
+ghost use Rattle.php_runnable.specs.Arguments.{AreArguments};
 ghost use Rattle.php_runnable.specs.Begins.{CanBegin};
 
 /// No run of a script's tree is stuck where all forms of the script are told, under any numbers for the frames.
@@ -18,8 +19,15 @@ pub fn told_scripts_are_never_stuck()
         (n : ℕ) (ns : List ℕ) → runs (rules (facts_of script)) (tree script) n ns d ≢ Stuck }
 {}
 
-/// The data with which the run of a script without arguments begins is such data.
+/// The data with which the run of a script begins is such data, whatever its arguments are.
 pub fn first_data_can_begin()
-    ensures { (script : Script Note) (allowance : ℕ) (b : ℕ) →
-        CanBegin (facts_of script) (script_frame b) (first (facts_of script) allowance [] b) }
+    ensures { (script : Script Note) (allowance : ℕ) (words : List (List ℕ)) (b : ℕ) → AreArguments words →
+        CanBegin (facts_of script) (script_frame b) (first (facts_of script) allowance words b) }
+{}
+
+/// The count of writes begins with what it costs to put the arguments behind one another: a step for each, and the entries
+/// that stand there by then. So it is n (n + 1) / 2 for n arguments.
+pub fn first_data_counts_arguments()
+    ensures { (script : Script Note) (allowance : ℕ) (words : List (List ℕ)) (b : ℕ) → AreArguments words →
+        2 * (first (facts_of script) allowance words b).writes ≡ length words * (length words + 1) }
 {}

@@ -1,5 +1,5 @@
 -- The code of a script is never stuck, since its tree isn't.
-use Rattle.std.proofs.Common.{◌≡◌, ℕ, ◌+◌, ◌<◌, [], ◌∷◌, refl, sym, subst, arith}
+use Rattle.std.proofs.Common.{◌≡◌, ℕ, ◌+◌, ◌<◌, suc, List, [], ◌∷◌, length, refl, sym, subst, arith}
 use Rattle.php_ast.specs.declaration.Tree.{Script}
 use Rattle.php_ast.specs.expression.View.{Note}
 use Rattle.php_memdef.specs.declared.names.Block.{Block}
@@ -19,10 +19,11 @@ use Rattle.php_vm_actions.specs.Acting.{frame_of}
 use Rattle.php_vm.specs.Running.{NeverStuck, control_of}
 use Rattle.php_vm.specs.Finishing.{BeginsWith}
 use Rattle.php_runnable.specs.Told.{IsScriptTold}
+use Rattle.php_runnable.specs.Arguments.{AreArguments}
 use Rattle.php_runnable.specs.Begins.{CanBegin}
 use Rattle.php_runnable.proofs.Blocks.{block_there}
 use Rattle.php_runnable.proofs.Never.{never-stuck}
-use Rattle.php_runnable.proofs.Starts.{counted, first-begins}
+use Rattle.php_runnable.proofs.Starts.{first_beside, first_holds, first-begins}
 use Rattle.php_runnable_code.specs.Runnable.{first_frame, first_data, IsRunnable}
 
 module _ (script : Script Note) (d : Data) where
@@ -40,18 +41,21 @@ some-room script = omega arith
 pub code-runnable : (script : Script Note) → IsScriptTold script → IsRunnable (compiled script)
 code-runnable script told = record {
   room = some-room script;
-  never_stuck = λ allowance b. code-never-stuck script (first_data (compiled script) allowance b) (first_frame b) told (first-begins script allowance b.0) refl;
+  never_stuck = λ allowance words b are.
+      code-never-stuck script (first_data (compiled script) allowance words b) (first_frame b) told (first-begins script allowance words b.0 are) refl;
 }
 
-pub can-begin : (program : Program) (allowance : ℕ) (b : Block) → 0 < room_if (nth_fact program.facts.functions 0) → (Means : Mem → Type 0) → Means (first_data program allowance b).mem
-    → BeginsWith Means (first_frame b) allowance (first_data program allowance b)
-can-begin program allowance b some Means m = record {
-  mem = m;
-  out = refl;
-  left = refl;
-  taken = refl;
-  frames = refl;
-  constants = refl;
-  status = refl;
-  block = (let room = room_if (nth_fact program.facts.functions 0) in block_there b.0 room (first_data program allowance b).mem 0 2 (counted b.0 room some));
-}
+pub can-begin : (program : Program) (allowance : ℕ) (words : List (List ℕ)) (b : Block) → AreArguments words → 0 < room_if (nth_fact program.facts.functions 0) → (Means : Mem → Type 0)
+    → Means (first_data program allowance words b).mem → BeginsWith Means (first_frame b) allowance (first_data program allowance words b)
+can-begin program allowance words b are some Means m =
+    let r = first_beside program.facts allowance words b.0 in
+    record {
+      mem = m;
+      out = r.out;
+      left = r.left;
+      taken = r.taken;
+      frames = r.frames;
+      constants = r.constants;
+      status = r.status;
+      block = block_there b.0 (room_if (nth_fact program.facts.functions 0)) (first_data program allowance words b).mem 0 (suc (1 + length words)) (first_holds program.facts allowance words b.0 some are);
+    }

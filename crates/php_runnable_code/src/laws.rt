@@ -1,5 +1,5 @@
 // Why the machine may run the code of a script. Each function says it in its contract, and its body is empty.
-ghost use Rattle.std.specs.Prelude.{◌≡◌, ◌<◌, ℕ};
+ghost use Rattle.std.specs.Prelude.{◌≡◌, ◌<◌, ℕ, List};
 ghost use Rattle.php_ast.specs.declaration.Tree.{Script};
 ghost use Rattle.php_ast.specs.expression.View.{Note};
 ghost use Rattle.php_frames.specs.declared.frame.Frame.{Frame};
@@ -13,6 +13,7 @@ ghost use Rattle.php_vm_actions.specs.Acting.{frame_of};
 ghost use Rattle.php_vm.specs.Running.{NeverStuck, control_of};
 ghost use Rattle.php_vm.specs.Finishing.{BeginsWith};
 ghost use Rattle.php_runnable.specs.Told.{IsScriptTold};
+ghost use Rattle.php_runnable.specs.Arguments.{AreArguments};
 ghost use Rattle.php_runnable.specs.Begins.{CanBegin};
 ghost use Rattle.php_runnable_code.specs.Runnable.{IsRunnable, first_data, first_frame};
 
@@ -30,9 +31,10 @@ pub fn compiled_scripts_are_runnable()
     ensures { (script : Script Note) → IsScriptTold script → IsRunnable (compiled script) }
 {}
 
-/// A run begins with a program's first data over each memory that can be taken for the memory of that data.
+/// A run begins with a program's first data, whatever the arguments are, over each memory that can be taken for the memory
+/// of that data.
 pub fn runs_can_begin<M: Memory>(memory: &M, block: Block)
-    ensures { (program : Program) (allowance : ℕ) → 0 < room_if (nth_fact program.facts.functions 0) →
-        M.means memory.now (first_data program allowance block).mem →
-        BeginsWith (M.means memory.now) (first_frame block) allowance (first_data program allowance block) }
+    ensures { (program : Program) (allowance : ℕ) (words : List (List ℕ)) → AreArguments words →
+        0 < room_if (nth_fact program.facts.functions 0) → M.means memory.now (first_data program allowance words block).mem →
+        BeginsWith (M.means memory.now) (first_frame block) allowance (first_data program allowance words block) }
 {}

@@ -1,3 +1,4 @@
+pub mod WordLemmas
 pub mod StartLemmas
 pub mod ProgramLemmas
 pub mod TreeLemmas

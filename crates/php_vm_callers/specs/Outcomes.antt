@@ -1,5 +1,5 @@
 -- What comes of running a program, and of running a script, said by its tree.
-use Rattle.std.specs.Prelude.{◌≡◌, ◌≤◌, ℕ, List, [], Option}
+use Rattle.std.specs.Prelude.{◌≡◌, ◌≤◌, ℕ, List, Option}
 use Rattle.php_base.specs.Written.{GrewBy}
 use Rattle.php_ast.specs.declaration.Tree.{Script}
 use Rattle.php_ast.specs.expression.View.{Note}
@@ -22,15 +22,15 @@ use Rattle.php_vm.specs.Running.{IsLast, control_of}
 use Rattle.php_vm.specs.Finishing.{Finishes}
 use Rattle.php_runnable_code.specs.Runnable.{first_frame, first_data}
 
--- in some block the program's run without arguments finishes so
-pub record HasRun (program : Program) (allowance : ℕ) (New : Mem → Type 0) (written before : Option (List ℕ)) (ticks : ℕ) (stop : Stop) : Type 0 where
+-- in some block the program's run with these arguments finishes so
+pub record HasRun (program : Program) (allowance : ℕ) (words : List (List ℕ)) (New : Mem → Type 0) (written before : Option (List ℕ)) (ticks : ℕ) (stop : Stop) : Type 0 where
   pub block : Block
-  pub finishes : Finishes program (first_data program allowance block) (control_of (first_frame block)) New written before ticks stop
+  pub finishes : Finishes program (first_data program allowance words block) (control_of (first_frame block)) New written before ticks stop
 
-module _ (script : Script Note) (allowance : ℕ) where
-  -- the run of the script's tree without arguments, in this block: so many steps at most, under these numbers for frames
+module _ (script : Script Note) (allowance : ℕ) (words : List (List ℕ)) where
+  -- the run of the script's tree with these arguments, in this block: so many steps at most, under these numbers for frames
   abbrev pub tree_runs : ℕ → ℕ → List ℕ → Outcome Data Ending
-  tree_runs b n ns = runs (rules (facts_of script)) (tree script) n ns (first (facts_of script) allowance [] b)
+  tree_runs b n ns = runs (rules (facts_of script)) (tree script) n ns (first (facts_of script) allowance words b)
 
   -- the tree's run ends so, whatever the numbers for frames
   pub record EndsAs (New : Mem → Type 0) (written before : Option (List ℕ)) (ticks : ℕ) (ending : Ending) : Type 0 where

@@ -2,8 +2,10 @@
 // what it answers is what the script means.
 #![tactic(auto)]
 
+mod arguments;
 mod script;
 mod start;
 
+pub use arguments::are_arguments;
 pub use script::{run_program, run_script};
 pub use start::{begin, can_run};
