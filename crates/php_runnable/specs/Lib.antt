@@ -1,3 +1,4 @@
 pub mod Told
 pub mod Arguments
 pub mod Begins
+pub mod Examples

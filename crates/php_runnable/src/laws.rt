@@ -12,6 +12,7 @@ ghost use Rattle.php_meaning.specs.Meaning.{tree};
 ghost use Rattle.php_runnable.specs.Told.{IsScriptTold};
 ghost use Rattle.php_runnable.specs.Arguments.{AreArguments};
 ghost use Rattle.php_runnable.specs.Begins.{CanBegin};
+ghost use Rattle.php_runnable.specs.Examples.{AreListed};
 
 /// No run of a script's tree is stuck where all forms of the script are told, under any numbers for the frames.
 pub fn told_scripts_are_never_stuck()
@@ -30,4 +31,9 @@ pub fn first_data_can_begin()
 pub fn first_data_counts_arguments()
     ensures { (script : Script Note) (allowance : ℕ) (words : List (List ℕ)) (b : ℕ) → AreArguments words →
         2 * (first (facts_of script) allowance words b).writes ≡ length words * (length words + 1) }
+{}
+
+/// What the variables of a script with two arguments hold when it begins: the one for its file's name, and one behind it.
+pub fn two_arguments_are_listed()
+    ensures { AreListed }
 {}
