@@ -1,4 +1,4 @@
--- No run of a script is stuck whose forms are all told.
+-- No run of a script is stuck whose forms are all told, and none needs a number for a frame.
 use Rattle.std.proofs.Common.{◌≡◌, ◌≢◌, ◌⊎◌, inl, inr, ℕ, zero, suc, ◌+◌, ◌-◌, Bool, true, false, cond, List, [], ◌∷◌, ◌++◌, length, Option, Some, None, refl, sym, ap, ◌∙◌, subst, arith}
 use Rattle.php_value.specs.declared.scalar.Scalar.TheVariants as scalar
 use Rattle.php_frames.specs.declared.completion.Completion.{Completion}
@@ -14,11 +14,9 @@ use Rattle.php_memdef.specs.Views.{temps_count}
 use Rattle.php_memdef.specs.Operations.{effect as made, Can}
 use Rattle.php_memdef.specs.Operations as op
 use Rattle.php_memdef.specs.Deciders.{can}
-use Rattle.php_machine.specs.Moves.{Next, Again, Enter, Ask, Inside, Leave, Park, Wake, End, Wrong, Make, Stuck}
+use Rattle.php_machine.specs.Moves.{Next, Again, Enter, Ask, Inside, Leave, Park, Wake, End, Wrong, Make, Outcome, Ended, Stuck, Unnumbered, Unfinished}
 use Rattle.php_machine.specs.Control.{Kept}
-use Rattle.php_machine.specs.Machine.{Rest, moved, fetched, served, stepped, step, runs}
-use Rattle.php_machine.specs.Ends.{Keeps}
-use Rattle.php_machine.proofs.EndLemmas.{never_stuck_lem}
+use Rattle.php_machine.specs.Machine.{Rest, moved, fetched, served, stepped, step, run, runs}
 use Rattle.php_layers.specs.Layers.{serve_layers}
 use Rattle.php_ast.specs.declaration.Tree.{Script}
 use Rattle.php_ast.specs.expression.View.{Note}
@@ -45,6 +43,13 @@ use Rattle.php_runnable.proofs.Releases.{release-ends, release-holds}
 use Rattle.php_runnable.proofs.Signatures.{leaves, spare, FitsOver}
 use Rattle.php_runnable.proofs.Steps.{pushed_ok, drops_ok}
 use Rattle.php_runnable.proofs.Unions.{union-goes}
+
+-- the run has ended, or more steps are needed
+abbrev GoesWell : {D E : Type 0} → Outcome D E → Type 0
+GoesWell (Ended e d) = Unit {0}
+GoesWell Unfinished = Unit {0}
+GoesWell Stuck = ⊥
+GoesWell Unnumbered = ⊥
 
 module _ (script : Script Note) where
   abbrev ns : Names
@@ -87,11 +92,11 @@ module _ (script : Script Note) where
   over_room r (suc k) l = omega (arith, l)
 
   module _ (rest : Rest Data RunEnding (List Left)) (numbers : List ℕ) (kept : K)
-      (on_going : (ms : List ℕ) (e : Data) (bs : List (List Left)) (held : K) → Inv e bs held → rest ms e bs held ≢ Stuck) where
+      (on_going : (ms : List ℕ) (e : Data) (bs : List (List Left)) (held : K) → Inv e bs held → GoesWell (rest ms e bs held)) where
     moved-goes : (why : Completion) (way : Way) (n : ℕ) (mv : Move) (here next : List Left) → Goes room why way n mv
-        → ((e : Data) → Ready room why way n e → rest numbers e (next ∷ []) kept ≢ Stuck) → moved (rules (facts_of script)) (tree script) rest numbers mv here next [] kept ≢ Stuck
+        → ((e : Data) → Ready room why way n e → GoesWell (rest numbers e (next ∷ []) kept)) → GoesWell (moved (rules (facts_of script)) (tree script) rest numbers mv here next [] kept)
     moved-goes why way n (Next d) here next h go = go d h
-    moved-goes why way n (End e d) here next h go = λ x. cc
+    moved-goes why way n (End e d) here next h go = tt
     moved-goes why way n (Again d) here next h go = absurd h
     moved-goes why way n (Enter f is_free at) here next h go = absurd h
     moved-goes why way n (Ask f is_free at) here next h go = absurd h
@@ -105,9 +110,9 @@ module _ (script : Script Note) where
     unfolding plan
     plan-is d f e = ap (planned (facts_of script) d) e
 
-    stepped-as : (d : Data) (x : List Left) (p : Plan) → plan (facts_of script) d ≡ p → stepped (rules (facts_of script)) (tree script) rest numbers p d x [] kept ≢ Stuck
-        → step (rules (facts_of script)) (tree script) rest numbers d (x ∷ []) kept ≢ Stuck
-    stepped-as d x p e h = subst (λ q. stepped (rules (facts_of script)) (tree script) rest numbers q d x [] kept ≢ Stuck) (sym e) h
+    stepped-as : (d : Data) (x : List Left) (p : Plan) → plan (facts_of script) d ≡ p → GoesWell (stepped (rules (facts_of script)) (tree script) rest numbers p d x [] kept)
+        → GoesWell (step (rules (facts_of script)) (tree script) rest numbers d (x ∷ []) kept)
+    stepped-as d x p e h = subst (λ q. GoesWell (stepped (rules (facts_of script)) (tree script) rest numbers q d x [] kept)) (sym e) h
 
     -- ---- what has fallen is released first
 
@@ -122,18 +127,18 @@ module _ (script : Script Note) where
 
     -- by what has fallen
     module _ (why : Completion) (way : Way) (n : ℕ) (d : Data) (x : List Left) (r : Ready room why way n d)
-        (again : (e : Data) → Ready room why way n e → rest numbers e (x ∷ []) kept ≢ Stuck)
-        (quiet : Holds r.frame.block room d.mem n 0 → stepped (rules (facts_of script)) (tree script) rest numbers (planned_by way why (facts_of script) d r.frame []) d x [] kept ≢ Stuck) where
+        (again : (e : Data) → Ready room why way n e → GoesWell (rest numbers e (x ∷ []) kept))
+        (quiet : Holds r.frame.block room d.mem n 0 → GoesWell (stepped (rules (facts_of script)) (tree script) rest numbers (planned_by way why (facts_of script) d r.frame []) d x [] kept)) where
       abbrev b : ℕ
       b = r.frame.block
 
       planned-as : planned_by r.frame.way r.frame.pending (facts_of script) d r.frame [] ≡ planned_by way why (facts_of script) d r.frame []
       planned-as = ap (λ y. planned_by y r.frame.pending (facts_of script) d r.frame []) r.way_is ∙ ap (λ y. planned_by way y (facts_of script) d r.frame []) r.pending
 
-      step-goes : step (rules (facts_of script)) (tree script) rest numbers d (x ∷ []) kept ≢ Stuck
+      step-goes : GoesWell (step (rules (facts_of script)) (tree script) rest numbers d (x ∷ []) kept)
       step-goes = by (scope_of d.mem b).falling refl
         where
-          by : (is : List Item) → (scope_of d.mem b).falling ≡ is → step (rules (facts_of script)) (tree script) rest numbers d (x ∷ []) kept ≢ Stuck
+          by : (is : List Item) → (scope_of d.mem b).falling ≡ is → GoesWell (step (rules (facts_of script)) (tree script) rest numbers d (x ∷ []) kept)
           by [] e =
               stepped-as d x (planned_by way why (facts_of script) d r.frame []) (plan-is d r.frame r.frames ∙ ap (λ is. planned_after is (facts_of script) d r.frame []) e ∙ planned-as)
               (quiet (record { sound = r.holds.sound; no_object = r.holds.no_object; looks = r.holds.looks; falling = omega (arith, ap length e) }))
@@ -188,7 +193,7 @@ module _ (script : Script Note) where
           able-ends (can (op.shed r.frame.block) d.mem) (after_shed (shed d.mem r.frame.block) (this_if (fact_of (facts_of script) r.frame)) r.frame [] d) (can_now r.frame.block room (op.shed r.frame.block) d.mem c)
           (shed-ends (shed d.mem r.frame.block) (this_if (fact_of (facts_of script) r.frame)) (no_this r.frame r.function) (ends n (shed d.mem r.frame.block).0 _ (shed-holds c)))
 
-    ending-goes : (d : Data) (x : List Left) (n : ℕ) → Ready room Return Ending n d → step (rules (facts_of script)) (tree script) rest numbers d (x ∷ []) kept ≢ Stuck
+    ending-goes : (d : Data) (x : List Left) (n : ℕ) → Ready room Return Ending n d → GoesWell (step (rules (facts_of script)) (tree script) rest numbers d (x ∷ []) kept)
     ending-goes d x n r =
         step-goes Return Ending n d x r (λ e s. on_going numbers e (x ∷ []) kept (inr (inr (record { count = n; ready = s }))))
         (λ quiet.
@@ -228,10 +233,10 @@ module _ (script : Script Note) where
           holds = quiet;
         }))
 
-    return-goes : (d : Data) (x : List Left) → Ready room Return Going 1 d → step (rules (facts_of script)) (tree script) rest numbers d (x ∷ []) kept ≢ Stuck
+    return-goes : (d : Data) (x : List Left) → Ready room Return Going 1 d → GoesWell (step (rules (facts_of script)) (tree script) rest numbers d (x ∷ []) kept)
     return-goes d x r =
         step-goes Return Going 1 d x r (λ e s. on_going numbers e (x ∷ []) kept (inr (inl s)))
-        (λ quiet. subst (λ o. served (rules (facts_of script)) (tree script) rest numbers o d x [] kept ≢ Stuck) (sym (serves-none Return x))
+        (λ quiet. subst (λ o. GoesWell (served (rules (facts_of script)) (tree script) rest numbers o d x [] kept)) (sym (serves-none Return x))
         (moved-goes Return Ending 1 (unserved (facts_of script) d) x x (unserved-goes d r quiet) (λ e s. on_going numbers e (x ∷ []) kept (inr (inr (record { count = 1; ready = s }))))))
 
     -- ---- tasks
@@ -256,10 +261,10 @@ module _ (script : Script Note) where
         })
 
     module _ (d : Data) (n : ℕ) (r : Ready room Normal Going n d) (quiet : Holds r.frame.block room d.mem n 0) where
-      silent-goes : (t : Task) (k : List Task) → Fits ns top (t ∷ k) n → rest numbers d ((left 0 (unfolded ns t ++ k) ∷ []) ∷ []) kept ≢ Stuck
+      silent-goes : (t : Task) (k : List Task) → Fits ns top (t ∷ k) n → GoesWell (rest numbers d ((left 0 (unfolded ns t ++ k) ∷ []) ∷ []) kept)
       silent-goes t k h = on_going numbers d ((left 0 (unfolded ns t ++ k) ∷ []) ∷ []) kept (inl (record { tasks = unfolded ns t ++ k; stands = refl; count = n; fits = unfolded-fits ns top t k n h; ready = r }))
 
-      tasks-go : (k : List Task) → Fits ns top k n → fetched (rules (facts_of script)) (tree script) rest numbers ((tree script).fetch (left 0 k ∷ [])) d (left 0 k ∷ []) [] kept ≢ Stuck
+      tasks-go : (k : List Task) → Fits ns top k n → GoesWell (fetched (rules (facts_of script)) (tree script) rest numbers ((tree script).fetch (left 0 k ∷ [])) d (left 0 k ∷ []) [] kept)
       tasks-go [] h =
           moved-goes Return Going 1 (effect (facts_of script) (Call EndBody) d) (left 0 [] ∷ []) (left 0 [] ∷ [])
           (effect-goes Return Going 1 (Call EndBody) d r.frame r.frames (nothing-left n r quiet h))
@@ -283,23 +288,28 @@ module _ (script : Script Note) where
       tasks-go (Runs i ss ∷ k) h = silent-goes (Runs i ss) k h
       tasks-go (RunItems is ∷ k) h = silent-goes (RunItems is) k h
 
-    task-goes : (d : Data) (x : List Left) → Does d x → step (rules (facts_of script)) (tree script) rest numbers d (x ∷ []) kept ≢ Stuck
+    task-goes : (d : Data) (x : List Left) → Does d x → GoesWell (step (rules (facts_of script)) (tree script) rest numbers d (x ∷ []) kept)
     task-goes d x h =
-        subst (λ y. step (rules (facts_of script)) (tree script) rest numbers d (y ∷ []) kept ≢ Stuck) (sym h.stands)
+        subst (λ y. GoesWell (step (rules (facts_of script)) (tree script) rest numbers d (y ∷ []) kept)) (sym h.stands)
         (step-goes Normal Going h.count d (left 0 h.tasks ∷ []) h.ready
         (λ e s. on_going numbers e ((left 0 h.tasks ∷ []) ∷ []) kept (inl (record { tasks = h.tasks; stands = refl; count = h.count; fits = h.fits; ready = s })))
         (λ quiet. tasks-go d h.count h.ready quiet h.tasks h.fits))
 
-  keeps : Keeps (rules (facts_of script)) (tree script) Inv
-  keeps rest numbers d [] kept inv go = absurd inv
-  keeps rest numbers d (x ∷ []) kept (inl h) go = task-goes rest numbers kept go d x h
-  keeps rest numbers d (x ∷ []) kept (inr (inl h)) go = return-goes rest numbers kept go d x h
-  keeps rest numbers d (x ∷ []) kept (inr (inr h)) go = ending-goes rest numbers kept go d x h.count h.ready
-  keeps rest numbers d (x ∷ (y ∷ cs)) kept inv go = absurd inv
+  keeps : (rest : Rest Data RunEnding (List Left)) → ((ms : List ℕ) (e : Data) (bs : List (List Left)) (held : K) → Inv e bs held → GoesWell (rest ms e bs held))
+      → (numbers : List ℕ) (d : Data) (cs : List (List Left)) (kept : K) → Inv d cs kept → GoesWell (step (rules (facts_of script)) (tree script) rest numbers d cs kept)
+  keeps rest go numbers d [] kept inv = absurd inv
+  keeps rest go numbers d (x ∷ []) kept (inl h) = task-goes rest numbers kept go d x h
+  keeps rest go numbers d (x ∷ []) kept (inr (inl h)) = return-goes rest numbers kept go d x h
+  keeps rest go numbers d (x ∷ []) kept (inr (inr h)) = ending-goes rest numbers kept go d x h.count h.ready
+  keeps rest go numbers d (x ∷ (y ∷ cs)) kept inv = absurd inv
 
-  pub never-stuck : (f : Frame) (d : Data) → IsScriptTold script → CanBegin (facts_of script) f d → (n : ℕ) (numbers : List ℕ) → runs (rules (facts_of script)) (tree script) n numbers d ≢ Stuck
-  never-stuck f d told h n numbers =
-      never_stuck_lem (rules (facts_of script)) (tree script) Inv keeps n numbers d ((tree script).start 0 ∷ []) []
+  run-goes : (n : ℕ) (numbers : List ℕ) (d : Data) (cs : List (List Left)) (kept : K) → Inv d cs kept → GoesWell (run (rules (facts_of script)) (tree script) n numbers d cs kept)
+  run-goes zero numbers d cs kept inv = tt
+  run-goes (suc n) numbers d cs kept inv = keeps (run (rules (facts_of script)) (tree script) n) (run-goes n) numbers d cs kept inv
+
+  goes-well : (f : Frame) (d : Data) → IsScriptTold script → CanBegin (facts_of script) f d → (n : ℕ) (numbers : List ℕ) → GoesWell (runs (rules (facts_of script)) (tree script) n numbers d)
+  goes-well f d told h n numbers =
+      run-goes n numbers d ((tree script).start 0 ∷ []) []
       (inl (record {
         tasks = RunItems script ∷ [];
         stands = refl;
@@ -316,3 +326,9 @@ module _ (script : Script Note) where
           holds = record { sound = h.sound; no_object = h.no_object; looks = h.block; falling = omega arith };
         };
       }))
+
+  pub never-stuck : (f : Frame) (d : Data) → IsScriptTold script → CanBegin (facts_of script) f d → (n : ℕ) (numbers : List ℕ) → runs (rules (facts_of script)) (tree script) n numbers d ≢ Stuck
+  never-stuck f d told h n numbers stuck = subst GoesWell stuck (goes-well f d told h n numbers)
+
+  pub never-unnumbered : (f : Frame) (d : Data) → IsScriptTold script → CanBegin (facts_of script) f d → (n : ℕ) (numbers : List ℕ) → runs (rules (facts_of script)) (tree script) n numbers d ≢ Unnumbered
+  never-unnumbered f d told h n numbers unnumbered = subst GoesWell unnumbered (goes-well f d told h n numbers)

@@ -1,6 +1,7 @@
-// Why no run of a script is stuck. Each function says it in its contract, and its body is empty.
+// Why no run of a script is stuck, and none needs a number for a frame. Each function says it in its contract, and its body
+// is empty.
 ghost use Rattle.std.specs.Prelude.{◌≡◌, ◌≢◌, ℕ, ◌+◌, ◌*◌, List, length};
-ghost use Rattle.php_machine.specs.Moves.{Stuck};
+ghost use Rattle.php_machine.specs.Moves.{Stuck, Unnumbered};
 ghost use Rattle.php_machine.specs.Machine.{runs};
 ghost use Rattle.php_ast.specs.declaration.Tree.{Script};
 ghost use Rattle.php_ast.specs.expression.View.{Note};
@@ -18,6 +19,12 @@ ghost use Rattle.php_runnable.specs.Examples.{AreListed};
 pub fn told_scripts_are_never_stuck()
     ensures { (script : Script Note) (f : Frame) (d : Data) → IsScriptTold script → CanBegin (facts_of script) f d →
         (n : ℕ) (ns : List ℕ) → runs (rules (facts_of script)) (tree script) n ns d ≢ Stuck }
+{}
+
+/// Nor does such a run need a number for a frame, since no further frame begins in it.
+pub fn told_scripts_need_no_numbers()
+    ensures { (script : Script Note) (f : Frame) (d : Data) → IsScriptTold script → CanBegin (facts_of script) f d →
+        (n : ℕ) (ns : List ℕ) → runs (rules (facts_of script)) (tree script) n ns d ≢ Unnumbered }
 {}
 
 /// The data with which the run of a script begins is such data, whatever its arguments are.

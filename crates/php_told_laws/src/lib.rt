@@ -1,0 +1,4 @@
+// Runs of scripts whose forms are all told come to an end.
+#![tactic(auto)]
+
+pub mod laws;
